@@ -6,3 +6,6 @@ pub mod Residue
 pub mod Pushes
 pub mod Front
 pub mod Shown
+pub mod LiveHeavy
+pub mod LagRun
+pub mod Answers
