@@ -1,5 +1,5 @@
 -- What readers are answered.
-use Rattle.std.specs.Prelude.{ℕ, ℤ, ◌==◌, ◌∷◌, ◌++◌, List, [], Bool, false, if◌then◌else◌, length, take, map}
+use Rattle.std.specs.Prelude.{ℕ, ℤ, ◌==◌, ◌∷◌, List, [], Bool, false, if◌then◌else◌, length, take, map}
 use Rattle.std.specs.List.{flat_map, enumerate_from, range_with_len}
 use Rattle.packet_key.specs.declared.key.FlowKey.{FlowKey}
 use Rattle.hash_rows.specs.declared.shape.Shape.{Shape}

@@ -1,5 +1,5 @@
 -- A run of workers, lanes and readers, one event after another.
-use Rattle.std.specs.Prelude.{ℕ, ◌+◌, ◌-◌, ◌==◌, ◌∷◌, ◌++◌, List, [], Bool, true, false, if◌then◌else◌, length, fold, nat_lt, replicate, slice_index_or, slice_set}
+use Rattle.std.specs.Prelude.{ℕ, ◌+◌, ◌-◌, ◌==◌, ◌∷◌, ◌++◌, List, [], if◌then◌else◌, length, fold, nat_lt, replicate, slice_index_or, slice_set}
 use Rattle.hash_rows.specs.declared.options.Full.{Full}
 use Rattle.hash_rows.specs.declared.options.Full.TheVariants.{Leave, Wait}
 use Rattle.hash_rows.specs.declared.shape.Update.{Update as Entry}

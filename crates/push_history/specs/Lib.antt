@@ -9,3 +9,6 @@ pub mod Shown
 pub mod LiveHeavy
 pub mod LagRun
 pub mod Answers
+pub mod Journal
+pub mod Rounds
+pub mod LawfulJournal

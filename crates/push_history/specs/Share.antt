@@ -1,5 +1,5 @@
 -- The packets of a worker.
-use Rattle.std.specs.Prelude.{ℕ, ◌%◌, ◌==◌, List, length, filter, slice_index_or, Bool}
+use Rattle.std.specs.Prelude.{ℕ, ◌%◌, ◌==◌, List, length, filter, slice_index_or}
 use Rattle.std.specs.List.{range_with_len}
 use Rattle.packet_key.specs.declared.key.FlowKey.{FlowKey}
 use Rattle.packet_key.specs.declared.key.FlowKey.TheVariants.{V4}
