@@ -1,13 +1,14 @@
 -- The laws of the kinds that join by sums modulo 2 ^ 64.
 use Rattle.std.proofs.Common.{◌≡◌, ◌<◌, ◌≤◌, ◌^◌, ℕ, ℤ, pos, negsuc, ◌+ℤ◌, ◌-ℤ◌, ◌≤ℤ◌, Bool, true, false, Option, Some, None, nat_le, if◌then◌else◌, List, refl, sym, ap, subst, ◌∙◌, arith}
-use Rattle.std.specs.Int.{int_wrap, int_wrapping_add, int_wrapping_sub, w64}
-use Rattle.std.specs.Prelude.{FitsSigned, unsigned_abs, neg_ℤ}
-use Rattle.std.proofs.lemmas.Int.{wrapping_add_is, wrapping_sub_is, int_wrap-add_left, int_wrap-add_right, int_wrap_fits, SFits-int_wrap, ints}
+use Rattle.std.specs.Int.{int_wrap, int_wrapping_add, int_wrapping_sub, int_wrapping_neg, w64}
+use Rattle.std.specs.Prelude.{FitsSigned, unsigned_abs, neg_ℤ, nat_lt}
+use Rattle.std.proofs.lemmas.Int.{wrapping_add_is, wrapping_neg_is, wrapping_sub_is, int_wrap-add_left, int_wrap-add_right, int_wrap_fits, SFits-int_wrap, ints}
 use Rattle.packet_key.specs.declared.key.FlowKey.{FlowKey}
 use Rattle.hash_rows.specs.declared.shape.Shape.{Shape}
 use Rattle.hash_rows.specs.declared.shape.Packet.{Packet}
+use Rattle.hash_rows.specs.Hash.{row_hash_of}
 use Rattle.hash_rows.specs.Rules.{Rules, AreLaws, sums}
-use Rattle.hash_rows.specs.Sketches.{is_sum, sum_join, sum_gap, sum_distance, sum_small, small_gap}
+use Rattle.hash_rows.specs.Sketches.{is_sum, sum_join, sum_gap, sum_distance, sum_small, small_gap, signed_in_row, count_min_value, count_min_estimate, count_sketch_value, count_sketch_estimate}
 
 -- a number of 64 bits, as the library says it
 pub fits_sum : (a : ℤ) → is_sum a ≡ true → FitsSigned w64 a
@@ -66,21 +67,6 @@ gap_self a p =
     let same : a -ℤ a ≡ pos 0 = omega (arith, ints) in
     sum_gap_is a a p p ∙ ap (int_wrap w64) same ∙ int_wrap_fits w64 (pos 0) (fits_sum (pos 0) refl)
 
--- the gap after a join to the whole is the gap joined
-pub gap_joined : (told whole a : ℤ) → is_sum told ≡ true → is_sum whole ≡ true → is_sum a ≡ true
-    → sum_gap told (sum_join whole a) ≡ sum_join (sum_gap told whole) a
-gap_joined told whole a p q r =
-    let apart : sum_join whole a -ℤ told ≡ sum_join whole a +ℤ neg_ℤ told = omega (arith, ints) in
-    let same : (whole +ℤ a) +ℤ neg_ℤ told ≡ (whole -ℤ told) +ℤ a = omega (arith, ints) in
-    sum_gap_is told (sum_join whole a) p (join_sum whole a q r)
-    ∙ ap (int_wrap w64) apart
-    ∙ ap (λ x. int_wrap w64 (x +ℤ neg_ℤ told)) (sum_join_is whole a q r)
-    ∙ int_wrap-add_left w64 (whole +ℤ a) (neg_ℤ told)
-    ∙ ap (int_wrap w64) same
-    ∙ sym (int_wrap-add_left w64 (whole -ℤ told) a)
-    ∙ ap (λ x. int_wrap w64 (x +ℤ a)) (sym (sum_gap_is told whole p q))
-    ∙ sym (sum_join_is (sum_gap told whole) a (gap_sum told whole p q) r)
-
 -- a small gap is from -127 to 127
 pub small_within : (gap : ℤ) → nat_le (unsigned_abs gap) 127 ≡ true → (negsuc 126 ≤ℤ gap) × (gap ≤ℤ pos 127)
 small_within (pos n) h = let low : n ≤ 127 = grind arith in (omega (arith, ints), omega (arith, ints))
@@ -97,6 +83,16 @@ small_fits : (gap b : ℤ) → small_gap gap ≡ Some b → (negsuc 126 ≤ℤ b
 small_fits gap b h =
     let is = small_gap_is gap b h in
     subst (λ x. (negsuc 126 ≤ℤ x) × (x ≤ℤ pos 127)) is.1 (small_within gap is.0)
+
+-- an amount is a value, and so is its negative
+amount_sum : (n : ℕ) → n < 2 ^ 32 → is_sum (pos n) ≡ true
+amount_sum n small = grind arith
+
+signed_sum : (key : FlowKey) (row n : ℕ) → n < 2 ^ 32 → is_sum (signed_in_row key row (pos n)) ≡ true
+signed_sum key row n small = by_test (nat_lt (row_hash_of key row) 9223372036854775808) where
+  by_test : (test : Bool) → is_sum (if test then pos n else int_wrapping_neg w64 (pos n)) ≡ true
+  by_test true = amount_sum n small
+  by_test false = ap is_sum (wrapping_neg_is w64 (pos n) (fits_sum (pos n) (amount_sum n small))) ∙ sum_fits _ (SFits-int_wrap w64 (neg_ℤ (pos n)))
 
 pub sums_lawful : (value : Shape → Packet → ℕ → ℤ) (estimate : Shape → List ℤ → FlowKey → ℤ)
     → ((shape : Shape) (packet : Packet) (row : ℕ) → packet.amount < 2 ^ 32 → is_sum (value shape packet row) ≡ true)
@@ -118,3 +114,9 @@ sums_lawful value estimate values = record {
   small_zero = refl;
   small_within = λ told whole b p q behind h. small_fits (sum_gap told whole) b h;
 }
+
+pub count_min_lawful : AreLaws (sums count_min_value count_min_estimate)
+count_min_lawful = sums_lawful count_min_value count_min_estimate (λ shape packet row small. amount_sum packet.amount small)
+
+pub count_sketch_lawful : AreLaws (sums count_sketch_value count_sketch_estimate)
+count_sketch_lawful = sums_lawful count_sketch_value count_sketch_estimate (λ shape packet row small. signed_sum packet.key row packet.amount small)
