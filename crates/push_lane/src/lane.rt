@@ -62,12 +62,10 @@ impl Lane {
         requires lane { pass.old.id ≡ self.now.id }
         requires room { length pass.old.sent < 2 ^ 32 }
         ensures lane { pass.new.id ≡ pass.old.id }
-        ensures sent {
-            MatchResult result
-                (λ _. (pass.new.sent ≡ pass.old.sent ++ message ∷ []) × (pass.new.fulls ≡ pass.old.fulls))
-                (λ back. (back ≡ message) × (pass.new.sent ≡ pass.old.sent) × (pass.new.fulls ≡ one_more pass.old.fulls)
-                    × (self.now.capacity ≤ length pass.old.sent) × IsFullStep self.now.capacity pass.old.sent)
-        }
+        ensures sent { MatchResult result
+            (λ _. (pass.new.sent ≡ pass.old.sent ++ message ∷ []) × (pass.new.fulls ≡ pass.old.fulls))
+            (λ back. (back ≡ message) × (pass.new.sent ≡ pass.old.sent) × (pass.new.fulls ≡ one_more pass.old.fulls)
+            × (self.now.capacity ≤ length pass.old.sent) × IsFullStep self.now.capacity pass.old.sent) }
     {
         let back = self.queue.push_as::<Sends, R>(rt, &mut pass.pass, message);
         if back.is_err() {
@@ -98,9 +96,7 @@ impl Lane {
     pub fn take<R: Wait>(&self, rt: &R, pass: &mut OutPass) -> Option<Push>
         requires { pass.old.id ≡ self.now.id }
         ensures lane { pass.new.id ≡ pass.old.id }
-        ensures taken {
-            MatchOption result (pass.new.taken ≡ pass.old.taken) (λ message. pass.new.taken ≡ pass.old.taken ++ message ∷ [])
-        }
+        ensures taken { MatchOption result (pass.new.taken ≡ pass.old.taken) (λ message. pass.new.taken ≡ pass.old.taken ++ message ∷ []) }
     {
         self.queue.pop_as::<Takes, R>(rt, &mut pass.pass)
     }
@@ -125,11 +121,9 @@ impl Lane {
         requires { pass.old.id ≡ self.now.id }
         ensures lane { pass.new.id ≡ pass.old.id }
         ensures kept { (pass.new.sent ≡ pass.old.sent) × (pass.new.fulls ≡ pass.old.fulls) }
-        ensures taken {
-            MatchOption result
-                ((pass.old.taken ≡ pass.old.sent) × (pass.new.taken ≡ pass.old.taken))
-                (λ message. (pass.new.taken ≡ pass.old.taken ++ message ∷ []) × StartsWith pass.new.sent pass.new.taken)
-        }
+        ensures taken { MatchOption result
+            ((pass.old.taken ≡ pass.old.sent) × (pass.new.taken ≡ pass.old.taken))
+            (λ message. (pass.new.taken ≡ pass.old.taken ++ message ∷ []) × StartsWith pass.new.sent pass.new.taken) }
     {
         self.queue.pop_as::<Drains, R>(rt, &mut pass.pass)
     }
