@@ -41,7 +41,12 @@ impl<K: Kind> Private<K> {
     ghost use Rattle.push_rule.specs.Stands.{StandsFor, StandsAt, Owes};
 
     /// A sketch that has counted nothing.
-    pub fn new(alloc: Global, cells: u32, threshold: u64, updates: u32) -> Result<Private<K>, NoMemory>
+    pub fn new(
+        alloc: Global,
+        cells: u32,
+        threshold: u64,
+        updates: u32,
+    ) -> Result<Private<K>, NoMemory>
         requires { 0 < threshold }
         ensures fresh { IfOk result (λ sketch. StandsFor K.stands K.rules sketch [] [] []) }
         ensures idle { IfOk result (λ sketch. sketch.due ≡ None) }
