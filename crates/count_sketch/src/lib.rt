@@ -1,13 +1,8 @@
-// A library with one function.
+//! Count Sketch: signed sums in rows, of which the lower median is the estimate.
 #![tactic(auto)]
 
-ghost use Rattle.std.specs.Prelude.{◌≡◌};
-ghost use Rattle.count_sketch.specs.Echo.{echo_of};
+mod kind;
+mod median;
 
-// The `ensures` clause is the contract: what `echo` returns is `echo_of` of its argument, a definition
-// in `specs/Echo.antt`, which a caller's clause can cite too.
-pub fn echo(x: usize) -> usize
-    ensures { result ≡ echo_of x }
-{
-    x
-}
+pub use kind::CountSketch;
+pub use median::lower_median;
