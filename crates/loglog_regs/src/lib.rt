@@ -1,13 +1,10 @@
-// A library with one function.
+//! LogLog: registers of ranks, from which the number of different keys is estimated.
 #![tactic(auto)]
 
-ghost use Rattle.std.specs.Prelude.{◌≡◌};
-ghost use Rattle.loglog_regs.specs.Echo.{echo_of};
+mod kind;
+mod registers;
+mod table;
 
-// The `ensures` clause is the contract: what `echo` returns is `echo_of` of its argument, a definition
-// in `specs/Echo.antt`, which a caller's clause can cite too.
-pub fn echo(x: usize) -> usize
-    ensures { result ≡ echo_of x }
-{
-    x
-}
+pub use kind::LogLog;
+pub use registers::rank;
+pub use table::distinct;
