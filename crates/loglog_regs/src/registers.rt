@@ -1,6 +1,6 @@
-ghost use Rattle.std.specs.Prelude.{◌≡◌, ◌≤◌, ◌*◌, ◌^◌, pos, length};
+ghost use Rattle.std.specs.Prelude.{◌≡◌, ◌≤◌, ◌*◌, ◌-◌, ◌^◌, pos, true, length, unsigned_abs};
 ghost use Rattle.hash_rows.specs.Rules.{AreValues, ranks};
-ghost use Rattle.hash_rows.specs.Sketches.{distinct_of, linear_count, rank_of, raw_estimate, register_sum, zero_registers};
+ghost use Rattle.hash_rows.specs.Sketches.{is_rank, distinct_of, linear_count, rank_of, raw_estimate, register_sum, zero_registers};
 
 /// The rank of a hash among that many registers, from 1 to 32: one more than the number of
 /// trailing zero bits of `hash / columns`.
@@ -28,9 +28,19 @@ fn sum_of_registers(cells: &[i64]) -> u64
 {
     let mut sum = 0;
     for rank in cells {
-        sum += 1u64 << (32 - *rank) as u32;
+        sum += weight(*rank);
     }
     sum
+}
+
+// 2^(32 - M) of a register M.
+fn weight(rank: i64) -> u64
+    requires { is_rank rank ≡ true }
+    ensures weight { result ≡ 2 ^ (32 - unsigned_abs rank) }
+    ensures some { 1 ≤ result }
+    ensures most { result ≤ 4294967296 }
+{
+    1 << (32 - rank.unsigned_abs())
 }
 
 // How many registers are 0.
