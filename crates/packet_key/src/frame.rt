@@ -154,7 +154,7 @@ pub fn read_frame(frame: &[u8]) -> Result<FlowKey, Skip>
         return Err(Skip::ShortFrame);
     }
     let mut at = 12;
-    let mut tags_left = 2;
+    let mut tags_left: u8 = 2;
     let mut ethertype = u16_at(frame, at);
     while tags(ethertype) {
         if tags_left == 0 {
