@@ -1,5 +1,7 @@
-ghost use Rattle.std.specs.Prelude.{◌≡◌, ◌++◌, length, take};
-ghost use Rattle.packet_key.specs.KeyBytes.{bytes_of};
+ghost use Rattle.std.specs.Prelude.{◌≡◌, ◌+◌, ◌≤◌, ◌++◌, length, take};
+ghost use Rattle.packet_key.specs.KeyBytes.{bytes_of, tail_of};
+
+use crate::put::put;
 
 /// The ends of a flow and its protocol. Every `V4` key is before every `V6` key; within a family
 /// the order is that of the key's bytes.
@@ -32,6 +34,8 @@ pub enum Skip {
 
 /// Writes the key's 13 or 37 bytes at the front of `into`, and answers their number: source,
 /// destination, source port, destination port, protocol, the most significant byte first.
+///
+/// What stands behind them is not specified.
 pub fn key_bytes(key: &FlowKey, into: &mut [u8; 37]) -> usize
     ensures length { result ≡ length (bytes_of key.now) }
     ensures bytes { take result into.new ≡ bytes_of key.now }
@@ -44,12 +48,9 @@ pub fn key_bytes(key: &FlowKey, into: &mut [u8; 37]) -> usize
             dport,
             proto,
         } => {
-            into[..4].copy_from_slice(&src.to_be_bytes());
-            into[4..8].copy_from_slice(&dst.to_be_bytes());
-            into[8..10].copy_from_slice(&sport.to_be_bytes());
-            into[10..12].copy_from_slice(&dport.to_be_bytes());
-            into[12] = *proto;
-            13
+            let at = put(into, 0, &src.to_be_bytes());
+            let at = put(into, at, &dst.to_be_bytes());
+            put_tail(into, at, *sport, *dport, *proto)
         }
         FlowKey::V6 {
             src,
@@ -58,12 +59,19 @@ pub fn key_bytes(key: &FlowKey, into: &mut [u8; 37]) -> usize
             dport,
             proto,
         } => {
-            into[..16].copy_from_slice(src);
-            into[16..32].copy_from_slice(dst);
-            into[32..34].copy_from_slice(&sport.to_be_bytes());
-            into[34..36].copy_from_slice(&dport.to_be_bytes());
-            into[36] = *proto;
-            37
+            let at = put(into, 0, src);
+            let at = put(into, at, dst);
+            put_tail(into, at, *sport, *dport, *proto)
         }
     }
+}
+
+fn put_tail(into: &mut [u8; 37], at: usize, sport: u16, dport: u16, proto: u8) -> usize
+    requires { at ≤ 32 }
+    ensures end { result ≡ at + 5 }
+    ensures written { take result into.new ≡ take at into.old ++ tail_of sport dport proto }
+{
+    let at = put(into, at, &sport.to_be_bytes());
+    let at = put(into, at, &dport.to_be_bytes());
+    put(into, at, &[proto])
 }

@@ -1,0 +1,62 @@
+ghost use Rattle.std.specs.Prelude.{◌≡◌, ◌+◌, ◌≤◌, ◌<◌, ◌^◌, ◌++◌, length, take, decimal};
+ghost use Rattle.std.specs.Char.{digit_char};
+ghost use Rattle.std.specs.Net.Text.{hex};
+
+use itoa::Buffer;
+
+// Writes the piece at `at`, and answers the place behind it, as each function below does.
+pub fn put(into: &mut [u8], at: usize, piece: &[u8]) -> usize
+    requires { at + length piece.now ≤ length into.old }
+    ensures end { result ≡ at + length piece.now }
+    ensures written { take result into.new ≡ take at into.old ++ piece.now }
+{
+    let end = at + piece.len();
+    into[at..end].copy_from_slice(piece);
+    end
+}
+
+pub fn put_number(into: &mut [u8], at: usize, number: u16) -> usize
+    requires { at + length (decimal number) ≤ length into.old }
+    ensures end { result ≡ at + length (decimal number) }
+    ensures written { take result into.new ≡ take at into.old ++ decimal number }
+{
+    let mut digits = Buffer::new();
+    put(into, at, digits.format(number).as_bytes())
+}
+
+fn hex_digit(digit: u16) -> u8
+    requires { digit < 16 }
+    ensures { result ≡ digit_char digit }
+{
+    let digit = digit as u8;
+    if digit < 10 {
+        b'0' + digit
+    } else {
+        b'a' + (digit - 10)
+    }
+}
+
+// The lower-case hexadecimal of a group, without leading zeros.
+#[tactic(auto, unfolding(std::specs::Net::Text::hex))]
+pub fn put_hex(into: &mut [u8], at: usize, group: u16) -> usize
+    requires { at + length (hex group) ≤ length into.old }
+    ensures end { result ≡ at + length (hex group) }
+    ensures written { take result into.new ≡ take at into.old ++ hex group }
+{
+    let digits = [
+        hex_digit(group / 0x1000),
+        hex_digit(group / 0x100 % 16),
+        hex_digit(group / 0x10 % 16),
+        hex_digit(group % 16),
+    ];
+    let zeros = if group >= 0x1000 {
+        0
+    } else if group >= 0x100 {
+        1
+    } else if group >= 0x10 {
+        2
+    } else {
+        3
+    };
+    put(into, at, &digits[zeros..])
+}
