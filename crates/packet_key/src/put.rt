@@ -1,10 +1,10 @@
-ghost use Rattle.std.specs.Prelude.{◌≡◌, ◌+◌, ◌≤◌, ◌<◌, ◌^◌, ◌++◌, length, take, decimal};
+ghost use Rattle.std.specs.Prelude.{◌≡◌, ◌+◌, ◌≤◌, ◌<◌, ◌++◌, length, take, decimal};
 ghost use Rattle.std.specs.Char.{digit_char};
 ghost use Rattle.std.specs.Net.Text.{hex};
 
 use itoa::Buffer;
 
-// Writes the piece at `at`, and answers the place behind it, as each function below does.
+// Each function writes a piece at `at`, and answers the place behind it.
 pub fn put(into: &mut [u8], at: usize, piece: &[u8]) -> usize
     requires { at + length piece.now ≤ length into.old }
     ensures end { result ≡ at + length piece.now }
@@ -15,13 +15,24 @@ pub fn put(into: &mut [u8], at: usize, piece: &[u8]) -> usize
     end
 }
 
-pub fn put_number(into: &mut [u8], at: usize, number: u16) -> usize
-    requires { at + length (decimal number) ≤ length into.old }
-    ensures end { result ≡ at + length (decimal number) }
-    ensures written { take result into.new ≡ take at into.old ++ decimal number }
+#[tactic(auto, using(crate::proofs::Lengths::byte_is_short))]
+pub fn put_byte(into: &mut [u8], at: usize, byte: u8) -> usize
+    requires { at + 3 ≤ length into.old }
+    ensures most { result ≤ at + 3 }
+    ensures written { take result into.new ≡ take at into.old ++ decimal byte }
 {
     let mut digits = Buffer::new();
-    put(into, at, digits.format(number).as_bytes())
+    put(into, at, digits.format(byte).as_bytes())
+}
+
+#[tactic(auto, using(crate::proofs::Lengths::port_is_short))]
+pub fn put_port(into: &mut [u8], at: usize, port: u16) -> usize
+    requires { at + 5 ≤ length into.old }
+    ensures most { result ≤ at + 5 }
+    ensures written { take result into.new ≡ take at into.old ++ decimal port }
+{
+    let mut digits = Buffer::new();
+    put(into, at, digits.format(port).as_bytes())
 }
 
 fn hex_digit(digit: u16) -> u8
@@ -38,9 +49,9 @@ fn hex_digit(digit: u16) -> u8
 
 // The lower-case hexadecimal of a group, without leading zeros.
 #[tactic(auto, unfolding(std::specs::Net::Text::hex))]
-pub fn put_hex(into: &mut [u8], at: usize, group: u16) -> usize
-    requires { at + length (hex group) ≤ length into.old }
-    ensures end { result ≡ at + length (hex group) }
+pub fn put_group(into: &mut [u8], at: usize, group: u16) -> usize
+    requires { at + 4 ≤ length into.old }
+    ensures most { result ≤ at + 4 }
     ensures written { take result into.new ≡ take at into.old ++ hex group }
 {
     let digits = [
