@@ -61,10 +61,17 @@ fn put_v6_end(into: &mut [u8; 100], at: usize, address: &[u8; 16], port: u16) ->
     put_port(into, at, port)
 }
 
-#[tactic(auto, unfolding(crate::specs::KeyText::text_of, crate::specs::KeyText::flow_text))]
-fn put_key(key: &FlowKey, into: &mut [u8; 100]) -> usize
+/// Writes the key's text at the front of `into`, and answers its length, at most 99: `A:P>B:Q/N` or
+/// `[A]:P>[B]:Q/N`, source and destination with their ports, and the protocol.
+///
+/// An IPv6 address is written as eight groups in lower-case hexadecimal with no leading zeros, and
+/// none is left out (RFC 4291, section 2.2, first form). What stands behind the text is not
+/// specified.
+#[tactic(auto, using(crate::proofs::Lengths::length_of_front), unfolding(crate::specs::KeyText::text_of, crate::specs::KeyText::flow_text))]
+pub fn key_text(key: &FlowKey, into: &mut [u8; 100]) -> usize
+    ensures length { result ≡ length (text_of key.now) }
     ensures most { result ≤ 99 }
-    ensures written { take result into.new ≡ text_of key.now }
+    ensures text { take result into.new ≡ text_of key.now }
 {
     match key {
         FlowKey::V4 {
@@ -94,19 +101,4 @@ fn put_key(key: &FlowKey, into: &mut [u8; 100]) -> usize
             put_byte(into, at, *proto)
         }
     }
-}
-
-/// Writes the key's text at the front of `into`, and answers its length, at most 99: `A:P>B:Q/N` or
-/// `[A]:P>[B]:Q/N`, source and destination with their ports, and the protocol.
-///
-/// An IPv6 address is written as eight groups in lower-case hexadecimal with no leading zeros, and
-/// none is left out (RFC 4291, section 2.2, first form). What stands behind the text is not
-/// specified.
-#[tactic(auto, using(crate::proofs::Lengths::length_of_front))]
-pub fn key_text(key: &FlowKey, into: &mut [u8; 100]) -> usize
-    ensures length { result ≡ length (text_of key.now) }
-    ensures most { result ≤ 99 }
-    ensures text { take result into.new ≡ text_of key.now }
-{
-    put_key(key, into)
 }
