@@ -1,2 +1,4 @@
+pub mod Bytes
 mod Lengths
+mod Sockets
 mod Tags
