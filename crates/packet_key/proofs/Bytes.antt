@@ -71,7 +71,7 @@ Made-groups_text [] h = nil
 Made-groups_text (x ∷ xs) h = and (hex x) _ (Made-hex x (h 0)) (more_groups xs (λ j. h (suc j)))
 
 -- the groups of an address have 16 bits
-groups_fit : (address : List ℕ) → ((k : ℕ) → get_or address k 0 < 256) → AreGroups (segments_of address)
+pub groups_fit : (address : List ℕ) → ((k : ℕ) → get_or address k 0 < 256) → AreGroups (segments_of address)
 groups_fit [] fits k = omega arith
 groups_fit (a ∷ []) fits k = omega arith
 groups_fit (a ∷ b ∷ rest) fits k =
@@ -80,7 +80,7 @@ groups_fit (a ∷ b ∷ rest) fits k =
     let later = groups_fit rest (λ j. fits (suc (suc j))) in
     elim k as (λ j. get_or (segments_of (a ∷ b ∷ rest)) j 0 < 2 ^ 16) [ zero ↦ omega arith | suc j ↦ later j ]
 
-octets_fit : (n k : ℕ) → get_or (to_be_bytes w32 n) k 0 < 256
+pub octets_fit : (n k : ℕ) → get_or (to_be_bytes w32 n) k 0 < 256
 octets_fit n k = grind arith
 
 Made-v4_end : (address port : ℕ) → port < 2 ^ 16 → Made (v4_end address port)
