@@ -1,4 +1,5 @@
 pub mod Bytes
 mod Lengths
 mod Sockets
+mod Splits
 mod Tags
