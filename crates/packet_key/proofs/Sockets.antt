@@ -1,5 +1,5 @@
 -- The ends of a key as socket addresses: their texts are in std's grammar, and give the ends back.
-use Rattle.std.proofs.Common.{◌≡◌, ◌∙◌, ℕ, zero, suc, ◌+◌, ◌*◌, ◌/◌, ◌%◌, ◌<◌, ◌≤◌, ◌^◌, Bool, true, List, [], ◌∷◌, ◌++◌, length, get_or, flat_map, Option, Some, Result, Ok, Err, decimal, refl, sym, ap, ap₂, subst, inl, inr, arith, append_assoc, le-leb}
+use Rattle.std.proofs.Common.{◌≡◌, ℕ, zero, suc, ◌+◌, ◌*◌, ◌/◌, ◌%◌, ◌<◌, ◌^◌, true, List, [], ◌∷◌, length, get_or, flat_map, Result, Ok, decimal, refl, ap, ap₂, inl, inr, arith, append_assoc, le-leb}
 use Rattle.std.proofs.lemmas.Bool.{cases_lt, lt-leb}
 use Rattle.std.proofs.lemmas.Bool.Decides.{nat_tests}
 use Rattle.std.proofs.lemmas.Fmt.{parse-decimal}
@@ -19,7 +19,7 @@ use Rattle.std.specs.declared.net.socket_addr.SocketAddr.{SocketAddr}
 use Rattle.std.specs.declared.net.socket_addr.SocketAddr.TheVariants as Socket
 use Rattle.packet_key.specs.declared.key.FlowKey.{FlowKey}
 use Rattle.packet_key.specs.declared.key.FlowKey.TheVariants.{V4, V6}
-use Rattle.packet_key.specs.Ends.{v4_socket, v6_socket, source_of, source_text, destination_of, destination_text, protocol_of}
+use Rattle.packet_key.specs.Ends.{v4_address, v6_address, source_of, source_text, destination_of, destination_text, protocol_of}
 use Rattle.packet_key.specs.KeyText.{IsAddress, IsKey, v4_end, v6_end}
 use Rattle.packet_key.proofs.Bytes.{AreGroups, groups_fit, octets_fit}
 
@@ -67,7 +67,7 @@ length-segments_of (suc n) [] len = absurd (omega arith)
 length-segments_of (suc n) (a ∷ []) len = absurd (omega arith)
 length-segments_of (suc n) (a ∷ b ∷ xs) len = ap suc (length-segments_of n xs (omega arith))
 
-spells_v4 : (address port : ℕ) → port < 2 ^ 16 → IsSocketText (v4_end address port) (v4_socket address port)
+spells_v4 : (address port : ℕ) → port < 2 ^ 16 → IsSocketText (v4_end address port) (Socket.V4 (v4_address address port))
 unfolding v4_end
 spells_v4 address port fits = (
   ipv4_text (to_be_bytes w32 address),
@@ -77,7 +77,7 @@ spells_v4 address port fits = (
   IsPortText-decimal port fits,
 )
 
-spells_v6 : (address : List ℕ) (port : ℕ) → IsAddress address → port < 2 ^ 16 → IsSocketText (v6_end address port) (v6_socket address port)
+spells_v6 : (address : List ℕ) (port : ℕ) → IsAddress address → port < 2 ^ 16 → IsSocketText (v6_end address port) (Socket.V6 (v6_address address port))
 unfolding v6_end
 spells_v6 address port is fits = record {
   ip = groups_text (segments_of address);
@@ -98,7 +98,7 @@ pub spells_destination : (k : FlowKey) → IsKey k → IsSocketText (destination
 spells_destination (V4 src dst sport dport proto) is = spells_v4 dst dport is.3
 spells_destination (V6 src dst sport dport proto) is = spells_v6 dst dport is.1 is.3
 
-octets_of-segments_of : (n : ℕ) (xs : List ℕ) → length xs ≡ 2 * n → ((k : ℕ) → get_or xs k 0 < 256) → octets_of (segments_of xs) ≡ xs
+pub octets_of-segments_of : (n : ℕ) (xs : List ℕ) → length xs ≡ 2 * n → ((k : ℕ) → get_or xs k 0 < 256) → octets_of (segments_of xs) ≡ xs
 octets_of-segments_of zero [] len fits = refl
 octets_of-segments_of zero (a ∷ xs) len fits = absurd (omega arith)
 octets_of-segments_of (suc n) [] len fits = absurd (omega arith)

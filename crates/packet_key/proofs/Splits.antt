@@ -1,5 +1,5 @@
 -- Where the text of a key is cut.
-use Rattle.std.proofs.Common.{◌≡◌, ◌∙◌, ℕ, ◌<◌, List, [], ◌∷◌, ◌++◌, Option, decimal, refl, arith, append_assoc}
+use Rattle.std.proofs.Common.{◌≡◌, ◌∙◌, ℕ, List, ◌∷◌, ◌++◌, Option, decimal, refl, arith, append_assoc}
 use Rattle.std.proofs.lemmas.Str.Pattern.{IsSplitOnceResult, split_after}
 use Rattle.std.specs.Borrow.{Bor}
 use Rattle.std.specs.Option.{MatchOption}
@@ -8,7 +8,7 @@ use Rattle.packet_key.specs.Ends.{source_text, destination_text, protocol_of}
 use Rattle.packet_key.specs.KeyText.{IsKey, flow_text, text_of}
 use Rattle.packet_key.proofs.Bytes.{Made-source, Made-destination, lacks, text_parts}
 
-flow_cut : (source destination : List ℕ) (proto : ℕ)
+pub flow_cut : (source destination : List ℕ) (proto : ℕ)
     → flow_text source destination proto ≡ source ++ (62 ∷ (destination ++ (47 ∷ decimal proto)))
 unfolding flow_text
 flow_cut source destination proto = simp append_assoc

@@ -1,4 +1,4 @@
-ghost use Rattle.std.specs.Prelude.{◌≡◌, ◌≢◌, List, ℕ, ◌<◌, decimal, MatchOption};
+ghost use Rattle.std.specs.Prelude.{◌≡◌, ◌≢◌, List, ℕ, ◌<◌, decimal, IfSome, MatchOption};
 ghost use Rattle.std.specs.declared.net.socket_addr.SocketAddr.{SocketAddr};
 ghost use Rattle.std.specs.Net.Grammar.{IsSocketText};
 ghost use Rattle.packet_key.specs.declared.key.FlowKey.{FlowKey};
@@ -7,7 +7,7 @@ ghost use Rattle.packet_key.specs.KeyText.{IsKey, text_of};
 
 use std::net::SocketAddr;
 
-use crate::{FlowKey, key_text};
+use crate::{FlowKey, in_range, key_text};
 
 #[tactic(auto, using(crate::proofs::Sockets::parsed_socket))]
 fn read_end(text: &str) -> Option<SocketAddr>
@@ -62,11 +62,13 @@ fn read_key(text: &str) -> Option<FlowKey>
 
 /// The key whose text this is, exactly as `key_text` writes it; `None` where it is the text of no key.
 pub fn parse_key(text: &str) -> Option<FlowKey>
-    ensures { MatchOption result
+    ensures key { IfSome result IsKey }
+    ensures text { MatchOption result
         ((k : FlowKey) → IsKey k → text.now ≢ text_of k)
         (λ k. text.now ≡ text_of k) }
 {
     let key = read_key(text)?;
+    in_range(&key);
     let mut written = [0; 100];
     let length = key_text(&key, &mut written);
     if &written[..length] == text.as_bytes() {

@@ -1,4 +1,4 @@
-use Rattle.std.proofs.Common.{◌≡◌, ◌∙◌, Some, None, sym, subst}
+use Rattle.std.proofs.Common.{Some, None, sym, subst}
 use Rattle.std.specs.Net.Grammar.{IsSocketText}
 use Rattle.packet_key.specs.Ends.{source_of, destination_of, protocol_of}
 use Rattle.packet_key.proofs.Bytes.{protocol_fits}
