@@ -1,0 +1,5 @@
+pub mod Lists
+pub mod Joins
+pub mod Growing
+pub mod Runs
+pub mod RoundRuns
