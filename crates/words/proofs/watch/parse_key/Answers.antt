@@ -1,0 +1,4 @@
+use Rattle.words.proofs.watch.parse_key.Goals as goal
+
+pub returns : goal.returns
+returns c = ?

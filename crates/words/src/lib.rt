@@ -1,0 +1,16 @@
+//! The grammar of the command line, and its reading through `clap`. A command is `run` or `load`
+//! with options; the options' mode is always `Rounds`, for which the grammar has no word yet.
+#![tactic(auto)]
+
+mod command;
+mod options;
+mod parser;
+mod read;
+mod values;
+mod watch;
+
+#[cfg(test)]
+mod tests;
+
+pub use command::{Command, WordStop};
+pub use read::read_words;
