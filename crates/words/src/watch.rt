@@ -1,4 +1,4 @@
-ghost use Rattle.std.specs.Prelude.{◌≡◌, ℕ, List, IfOk, IfErr, MatchOption, IfSome, ◌≢◌, option_map, [], true, false};
+ghost use Rattle.std.specs.Prelude.{◌≡◌, ℕ, List, IfOk, IfErr, MatchOption, IfSome, ◌≢◌, option_map, All, MatchBool, Contains, [], true, false};
 ghost use Rattle.packet_key.specs.KeyText.{text_of, IsKey};
 ghost use Rattle.packet_key.specs.declared.key.FlowKey.{FlowKey};
 ghost use Rattle.words.specs.Values.{JoinsKeys, ReadsKeys};
@@ -20,6 +20,13 @@ fn parse_key(text: &str) -> Option<FlowKey>
     None
 }
 
+// Whether the key is among those.
+fn is_among(keys: &[FlowKey], key: &FlowKey) -> bool
+    ensures { MatchBool result (Contains keys.now key.now) (All (λ k. k ≢ key.now) keys.now) }
+{
+    keys.contains(key)
+}
+
 // Adds the keys of the list to the empty list, and says whether the grammar gives them.
 fn add_keys(keys: &mut Keys, list: &str) -> bool
     requires empty { keys.old.items ≡ [] }
@@ -32,7 +39,7 @@ fn add_keys(keys: &mut Keys, list: &str) -> bool
         let Some(key) = parse_key(text) else {
             return false;
         };
-        if keys.len() == MOST_WATCHED || keys.as_slice().contains(&key) {
+        if keys.len() == MOST_WATCHED || is_among(keys.as_slice(), &key) {
             return false;
         }
         keys.push(key);
