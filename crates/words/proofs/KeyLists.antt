@@ -9,7 +9,8 @@ use Rattle.packet_key.specs.declared.key.FlowKey.{FlowKey}
 use Rattle.packet_key.specs.KeyText.{IsKey, text_of}
 use Rattle.words.specs.Grammar.{Text}
 use Rattle.words.specs.Values.{JoinsKeys}
-use Rattle.words.proofs.KeyTexts.{no_comma, same_text}
+use Rattle.packet_key.proofs.OneText.{one_key}
+use Rattle.words.proofs.KeyTexts.{no_comma}
 
 -- the pieces of a list between its commas
 abbrev pub pieces : Text → List Text
@@ -37,7 +38,7 @@ same_keys (k ∷ ks) [] a b e = cc
 same_keys (k ∷ ks) (l ∷ ls) a b e =
     let first : text_of k ≡ text_of l = cc in
     let rest : map text_of ks ≡ map text_of ls = cc in
-    ap₂ (λ (x : FlowKey) (xs : List FlowKey). x ∷ xs) (same_text k l (All-head IsKey k ks a) (All-head IsKey l ls b) first)
+    ap₂ (λ (x : FlowKey) (xs : List FlowKey). x ∷ xs) (one_key k l (All-head IsKey k ks a) (All-head IsKey l ls b) first)
     (same_keys ks ls (All-tail IsKey k ks a) (All-tail IsKey l ls b) rest)
 
 -- a list is that of at most one list of keys
@@ -89,7 +90,7 @@ pub doubled : (list t : Text) (items : List FlowKey) (n : ℕ) (key : FlowKey) �
 doubled list t items n key at texts keys is text has ks j =
     let piece = piece_is_key list ks n t key j at.0 at.1 in
     contains_before ks items n key j.differ piece.0 (keys_before list ks items n j keys texts)
-    (same_text key (get_or ks n key) is piece.1 (sym text ∙ piece.2)) has
+    (one_key key (get_or ks n key) is piece.1 (sym text ∙ piece.2)) has
 
 -- ---- the list that is read
 

@@ -1,5 +1,5 @@
 -- Parts give at most one set of options.
-use Rattle.std.proofs.Common.{◌≡◌, ◌∙◌, ◌<◌, ◌≤◌, ◌^◌, ℕ, refl, sym, ap, subst, arith, List, [], ◌∷◌, Option, Some, None}
+use Rattle.std.proofs.Common.{◌≡◌, ◌∙◌, ◌<◌, ◌≤◌, ◌^◌, ℕ, refl, sym, ap, subst, arith, List, [], ◌∷◌, Option, Some, None, codes}
 use Rattle.std.specs.Prelude.{ℤ, pos}
 use Rattle.std.proofs.lemmas.Fmt.{decimal_injective}
 use Rattle.hash_rows.specs.OptionTexts.{amount_text, full_text, share_text, sketch_text}
@@ -13,9 +13,11 @@ use Rattle.hash_rows.specs.declared.options.Share.TheVariants.{Turn, Key}
 use Rattle.hash_rows.specs.declared.options.Sketch.{Sketch}
 use Rattle.hash_rows.specs.declared.options.Sketch.TheVariants.{CountMin, CountSketch, LogLog}
 use Rattle.hash_rows.specs.declared.shape.Shape.{Shape}
-use Rattle.words.specs.Grammar.{Part, Text}
+use Rattle.packet_key.specs.declared.key.FlowKey.{FlowKey}
+use Rattle.words.specs.Grammar.{Part, Text, value_in}
 use Rattle.words.specs.Options.{GivesOptions, GivesShape, most_rows, usual_rows, usual_threshold}
-use Rattle.words.specs.Values.{NeedsNumber, ReadsChoice, ReadsInteger, ReadsNumber}
+use Rattle.words.specs.Values.{NeedsNumber, ReadsChoice, ReadsInteger, ReadsKeys, ReadsNumber}
+use Rattle.words.proofs.KeyLists.{same_list}
 
 -- a value gives at most one number
 pub same_number : (low high d : ℕ) (v : Option Text) (m n : ℕ) → high < 2 ^ 64 → ReadsNumber low high d v m → ReadsNumber low high d v n → m ≡ n
@@ -79,3 +81,50 @@ same_shape parts k s t g h =
     few CountMin = omega arith
     few CountSketch = omega arith
     few LogLog = omega arith
+
+same_watch : (v : Option Text) (ks ls : List FlowKey) → ReadsKeys v ks → ReadsKeys v ls → ks ≡ ls
+same_watch None ks ls p q = p ∙ sym q
+same_watch (Some list) ks ls p q = same_list list ks ls p q
+
+-- parts give at most one set of options
+pub same_options : (parts : List Part) (o d : Options) → GivesOptions parts o → GivesOptions parts d → o ≡ d
+same_options parts o d g h =
+    let sketch = same_choice sketch_text CountMin _ o.sketch d.sketch same_sketch g.sketch h.sketch in
+    let back = λ (P : Sketch → Type 0) (p : P d.sketch). subst P (sym sketch) p in
+    let shape = same_shape parts o.sketch o.shape d.shape g.shape (back (λ (s : Sketch). GivesShape parts s d.shape) h.shape) in
+    let amount = same_choice amount_text Packets _ o.amount d.amount same_amount g.amount h.amount in
+    let share = same_choice share_text Turn _ o.share d.share same_share g.share h.share in
+    let workers = same_number 1 16 4 _ o.workers d.workers (omega arith) g.workers h.workers in
+    let threshold = same_number 1 1099511627776 (usual_threshold o.sketch) _ o.threshold d.threshold (omega arith) g.threshold
+    (back (λ (s : Sketch). ReadsNumber 1 1099511627776 (usual_threshold s) (value_in (codes "threshold") parts) d.threshold) h.threshold) in
+    let lane = same_number 1 4096 64 _ o.lane d.lane (omega arith) g.lane h.lane in
+    let batch = same_number 1 1024 32 _ o.batch d.batch (omega arith) g.batch h.batch in
+    let round = same_number 1 65536 64 _ o.round d.round (omega arith) g.round h.round in
+    let full = same_choice full_text Leave _ o.full d.full same_full g.full h.full in
+    let mode = g.mode ∙ sym h.mode in
+    let readers = same_number 0 4 0 _ o.readers d.readers (omega arith) g.readers h.readers in
+    let asks = same_number 0 1024 0 _ o.asks d.asks (omega arith) g.asks h.asks in
+    let items = same_watch _ o.watch.items d.watch.items g.watch h.watch in
+    let room = g.room ∙ sym h.room in
+    let heavy = same_number 1 1024 64 _ o.heavy d.heavy (omega arith) g.heavy h.heavy in
+    let least = same_integer 1 1099511627776 1024 _ o.least d.least (omega arith) g.least h.least in
+    let journal = g.journal ∙ sym h.journal in
+    λ i. record {
+      sketch = sketch i;
+      shape = shape i;
+      amount = amount i;
+      share = share i;
+      workers = workers i;
+      threshold = threshold i;
+      lane = lane i;
+      batch = batch i;
+      round = round i;
+      full = full i;
+      mode = mode i;
+      readers = readers i;
+      asks = asks i;
+      watch = record { items = items i; room = room i };
+      heavy = heavy i;
+      least = least i;
+      journal = journal i;
+    }

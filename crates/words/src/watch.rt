@@ -6,19 +6,10 @@ ghost use Rattle.words.specs.Values.{JoinsKeys, ReadsKeys};
 use crate::WordStop;
 use hash_rows::Keys;
 use listed::Listed;
-use packet_key::FlowKey;
+use packet_key::{FlowKey, parse_key};
 use std::alloc::Global;
 
 const MOST_WATCHED: u32 = 16;
-
-fn parse_key(text: &str) -> Option<FlowKey>
-    ensures key { IfSome result IsKey }
-    ensures text { MatchOption result
-        ((k : FlowKey) → IsKey k → text.now ≢ text_of k)
-        (λ k. text.now ≡ text_of k) }
-{
-    None
-}
 
 // Whether the key is among those.
 fn is_among(keys: &[FlowKey], key: &FlowKey) -> bool
