@@ -6,11 +6,10 @@ mod command;
 mod options;
 mod parser;
 mod read;
-mod values;
-mod watch;
-
 #[cfg(test)]
 mod tests;
+mod values;
+mod watch;
 
 pub use command::{Command, WordStop};
 pub use read::read_words;

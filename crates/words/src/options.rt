@@ -115,7 +115,22 @@ pub(crate) fn options_of(matches: &ArgMatches<'_>, watch: Keys) -> Option<Option
     let journal = matches.get_flag("journal");
     let mode = Mode::Rounds;
     Some(Options {
-        sketch, shape, amount, share, workers, threshold, lane, batch, round, full, mode, readers,
-        asks, watch, heavy, least, journal,
+        sketch,
+        shape,
+        amount,
+        share,
+        workers,
+        threshold,
+        lane,
+        batch,
+        round,
+        full,
+        mode,
+        readers,
+        asks,
+        watch,
+        heavy,
+        least,
+        journal,
     })
 }

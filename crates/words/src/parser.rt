@@ -92,10 +92,7 @@ fn are_forms(words: &[String]) -> bool
 }
 
 /// The matches of the words, where they are a line of the grammar.
-pub(crate) fn matches_of<'a>(
-    alloc: Global,
-    words: &'a [String],
-) -> Result<ArgMatches<'a>, WordStop>
+pub(crate) fn matches_of<'a>(alloc: Global, words: &'a [String]) -> Result<ArgMatches<'a>, WordStop>
     ensures ok { IfOk result (HasLine line_names (map string_bytes words.now)) }
     ensures usage { IfErr result (λ e. e ≡ WordStop.Usage → IsNoLine line_names (map string_bytes words.now)) }
 {
