@@ -21,6 +21,14 @@ stood_by place (Some order) b fs gs bad at refused =
 pub stood_fine : (place : Place) (b : List ℕ) (fs gs : List Framed) (bad : Bad) → Stands place b fs → RefusesNext place.limit b gs bad → ⊥
 stood_fine place b fs gs bad stands refused = stood_by place place.order b fs gs bad stands.at refused
 
+count_by : (place : Place) (o : Option Order) (b : List ℕ) (fs : List Framed) → MatchOption o (InHeader place b fs) (InBody place b fs) → place.count ≡ length fs
+count_by place None b fs at = at.count ∙ ap length (sym at.none)
+count_by place (Some order) b fs at = at.count ∙ sym (length-map at.records (frame_of order)) ∙ ap length (sym at.frames_are)
+
+-- a reader counts its frames
+pub stood_count : (place : Place) (b : List ℕ) (fs : List Framed) → Stands place b fs → place.count ≡ length fs
+stood_count place b fs stands = count_by place place.order b fs stands.at
+
 -- a record that is whole comes before the refusals behind it
 whole_first : (limit : ℕ) (order : Order) (a z rest : List ℕ) (rs : List Record) (fs : List Framed) (next : Framed) (bad : Bad) → IsLaidOut order limit a rs rest
     → fs ++ next ∷ [] ≡ map (frame_of order) rs → RefusesNext limit (a ++ z) fs bad → ⊥

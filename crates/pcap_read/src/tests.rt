@@ -1,4 +1,6 @@
-use crate::{Bad, Reader};
+use crate::{
+    Bad, Reader, capture_fine, one_outcome, one_reading, one_refusal, refusal_stays, standing,
+};
 use flow_base::NoMemory;
 use std::alloc::{AllocError, Global};
 use std::test::Fail;
@@ -169,4 +171,14 @@ fn frames_are_lent_and_a_refusal_is_kept(rt: HostRuntime) -> Result<(), Fail> {
     assert_eq!(rt; frame.bytes, &REC[16..]);
     assert_eq!(rt; other.take(&input[94..]), Err(Bad::TooMany));
     Ok(())
+}
+
+#[test]
+fn the_laws_are_called() {
+    one_reading();
+    refusal_stays();
+    one_refusal();
+    capture_fine();
+    one_outcome();
+    standing();
 }
