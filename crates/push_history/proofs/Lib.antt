@@ -3,3 +3,7 @@ pub mod Joins
 pub mod Growing
 pub mod Runs
 pub mod RoundRuns
+pub mod RoundSteps
+pub mod AskLists
+pub mod AskParts
+pub mod RoundAnswers

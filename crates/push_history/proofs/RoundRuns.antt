@@ -32,7 +32,7 @@ pub record Steps (f : ℕ → Worker → Worker) (g : ℕ → Worker → List Pu
   pub shown : s'.shown ≡ s.shown
   pub seen : s'.seen ≡ s.seen
 
-flat_map_same : {X : Type 0} (h h' : ℕ → List X) (a k : ℕ) → ((w : ℕ) → a ≤ w → w < a + k → h w ≡ h' w) → flat_map h (range_with_len a k) ≡ flat_map h' (range_with_len a k)
+pub flat_map_same : {X : Type 0} (h h' : ℕ → List X) (a k : ℕ) → ((w : ℕ) → a ≤ w → w < a + k → h w ≡ h' w) → flat_map h (range_with_len a k) ≡ flat_map h' (range_with_len a k)
 flat_map_same h h' a zero same = refl
 flat_map_same h h' a (suc k) same =
     ap (λ t. t ++ flat_map h (range_with_len (a + 1) k)) (same a (omega arith) (omega arith))

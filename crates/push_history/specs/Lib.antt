@@ -13,3 +13,4 @@ pub mod Journal
 pub mod Rounds
 pub mod LawfulJournal
 pub mod OwnSteps
+pub mod RoundStates
