@@ -1,6 +1,7 @@
 pub mod Lists
 pub mod Joins
 pub mod Growing
+pub mod Telling
 pub mod Runs
 pub mod RoundRuns
 pub mod RoundSteps

@@ -1,18 +1,18 @@
 -- A round, worker by worker: each worker's part is a step of its own, and the fold grows by what each lane gives.
-use Rattle.std.proofs.Common.{◌≡◌, ◌<◌, ◌≤◌, ℕ, zero, suc, ◌+◌, ◌-◌, ◌==◌, List, [], ◌∷◌, ◌++◌, length, get_or, set, length-set, take, drop, replicate, Bool, true, false, nat_lt, refl, sym, ap, ◌∙◌, subst, arith, append_assoc, ◌*◌, drop-cons, add-zero, add-one, pos, ◌⊎◌, inl, inr}
-use Rattle.std.specs.Prelude.{fold, if◌then◌else◌, slice_set, slice_index_or, min}
+use Rattle.std.proofs.Common.{◌≡◌, ◌<◌, ◌≤◌, ℕ, zero, suc, ◌+◌, ◌==◌, List, [], ◌∷◌, ◌++◌, length, set, length-set, take, drop, replicate, false, refl, sym, ap, ◌∙◌, subst, arith, append_assoc, ◌*◌, drop-cons, add-zero, add-one, pos, inl, inr}
+use Rattle.std.specs.Prelude.{fold, slice_set, slice_index_or, min}
 use Rattle.std.specs.List.{flat_map, range_with_len}
 use Rattle.std.proofs.lemmas.List.{append-nil, get_or-set_same, get_or-set_other}
 use Rattle.std.proofs.Math.Nat.{eq-or-lt_of_le}
 use Rattle.hash_rows.specs.declared.options.Options.{Options}
 use Rattle.hash_rows.specs.declared.shape.Push.{Push}
 use Rattle.push_history.specs.declared.event.Event.{Event}
-use Rattle.push_history.specs.declared.event.Event.TheVariants.{Update, Take, Publish, Ask}
+use Rattle.push_history.specs.declared.event.Event.TheVariants.{Take}
 use Rattle.push_history.specs.Share.{zero_key}
 use Rattle.push_history.specs.Front.{message_at}
-use Rattle.push_history.specs.LagRun.{Terms, Worker, State, worker_in, with_worker, fresh_worker, take_step, lag_step, lag_run, updates_by}
+use Rattle.push_history.specs.LagRun.{Terms, Worker, State, worker_in, fresh_worker, take_step, lag_step, lag_run}
 use Rattle.push_history.specs.Rounds.{count_times, count_in_round, fold_in_round, held_by, updates_left}
-use Rattle.push_history.specs.OwnSteps.{counts, left_of, held_of, with_taken, next_taken, counted_in_round}
+use Rattle.push_history.specs.OwnSteps.{counts, held_of, with_taken, next_taken, counted_in_round}
 use Rattle.push_history.proofs.Runs.{run_more, count_times_run, same_worker, set_twice}
 
 abbrev no_push : Push

@@ -1,11 +1,11 @@
 -- A run after one event more, and what the events of one worker make of it.
-use Rattle.std.proofs.Common.{◌≡◌, ◌<◌, ◌≤◌, ℕ, zero, suc, ◌+◌, ◌-◌, List, [], ◌∷◌, ◌++◌, length, get_or, set, length-set, take, drop, replicate, Bool, true, false, nat_lt, refl, sym, ap, ◌∙◌, subst, arith, append_assoc}
-use Rattle.std.specs.Prelude.{fold, if◌then◌else◌, slice_set, slice_index_or}
-use Rattle.std.proofs.lemmas.List.{append-nil, set-get_or, get_or-set_same, get_or-set_other}
+use Rattle.std.proofs.Common.{◌≡◌, ◌<◌, ℕ, zero, suc, List, [], ◌∷◌, ◌++◌, length, set, length-set, true, false, refl, sym, ap, ◌∙◌}
+use Rattle.std.specs.Prelude.{if◌then◌else◌}
+use Rattle.std.proofs.lemmas.List.{set-get_or, get_or-set_same}
 use Rattle.std.proofs.lemmas.List.Sums.{fold-append}
 use Rattle.push_history.specs.declared.event.Event.{Event}
-use Rattle.push_history.specs.declared.event.Event.TheVariants.{Update, Take, Publish, Ask}
-use Rattle.push_history.specs.LagRun.{Terms, Worker, State, worker_in, with_worker, fresh_worker, count_step, take_step, lag_step, lag_run, reply_to, start}
+use Rattle.push_history.specs.declared.event.Event.TheVariants.{Update}
+use Rattle.push_history.specs.LagRun.{Terms, Worker, State, worker_in, with_worker, fresh_worker, count_step, lag_step, lag_run, reply_to, start}
 use Rattle.push_history.specs.Rounds.{is_waits, count_times}
 use Rattle.push_history.specs.OwnSteps.{counts}
 
