@@ -63,12 +63,13 @@ one_more f g a k s s' within rest =
     record {
       len = rest.len ∙ length-set s.workers a x;
       done = λ w low high. elim (eq-or-lt_of_le low) [
-        inl e ↦ subst (λ v. worker_in s' v ≡ f v (worker_in s v)) e (rest.before a (omega arith) ∙ there)
-        | inr lt ↦ rest.done w (omega (arith, lt)) (omega (arith, high)) ∙ ap (f w) (other w (λ e. absurd (omega (arith, lt, e)))) ];
+        | inl e ↦ subst (λ v. worker_in s' v ≡ f v (worker_in s v)) e (rest.before a (omega arith) ∙ there)
+        | inr lt ↦ rest.done w (omega (arith, lt)) (omega (arith, high)) ∙ ap (f w) (other w (λ e. absurd (omega (arith, lt, e))))
+      ];
       before = λ w lt. rest.before w (omega (arith, lt)) ∙ other w (λ e. absurd (omega (arith, lt, e)));
       behind = λ w le. rest.behind w (omega (arith, le)) ∙ other w (λ e. absurd (omega (arith, le, e)));
       folded = rest.folded ∙ append_assoc s.folded (g a (worker_in s a)) _
-        ∙ ap (λ t. s.folded ++ (g a (worker_in s a) ++ t)) (flat_map_same _ _ (a + 1) k (λ w low high. ap (g w) (other w (λ e. absurd (omega (arith, low, e))))));
+          ∙ ap (λ t. s.folded ++ (g a (worker_in s a) ++ t)) (flat_map_same _ _ (a + 1) k (λ w low high. ap (g w) (other w (λ e. absurd (omega (arith, low, e))))));
       shown = rest.shown;
       seen = rest.seen;
     }
@@ -105,19 +106,19 @@ take_once t s w held =
 -- and then n more
 take_more : (s : State) (w n : ℕ) → suc n ≤ held_of (worker_in s w)
     → stepped (stepped s w (with_taken (worker_in s w) 1) (message_at (worker_in s w).sent (worker_in s w).taken ∷ [])) w
-        (with_taken (with_taken (worker_in s w) 1) n) (next_taken (with_taken (worker_in s w) 1) n)
+    (with_taken (with_taken (worker_in s w) 1) n) (next_taken (with_taken (worker_in s w) 1) n)
     ≡ stepped s w (with_taken (worker_in s w) (suc n)) (next_taken (worker_in s w) (suc n))
 take_more s w n held =
     let x = worker_in s w in
     let m = message_at x.sent x.taken in
     let same : with_taken (with_taken x 1) n ≡ with_taken x (suc n) =
-        ap (λ (k : ℕ). record { counted = x.counted; sent = x.sent; refused = x.refused; taken = k }) (omega arith) in
+    ap (λ (k : ℕ). record { counted = x.counted; sent = x.sent; refused = x.refused; taken = k }) (omega arith) in
     let front : m ∷ next_taken (with_taken x 1) n ≡ next_taken x (suc n) =
-        ap (λ (k : ℕ). m ∷ take n (drop k x.sent)) (add-one x.taken) ∙ ap (λ (l : List Push). take (suc n) l) (sym (drop-cons x.sent x.taken no_push (omega (arith, held)))) in
+    ap (λ (k : ℕ). m ∷ take n (drop k x.sent)) (add-one x.taken) ∙ ap (λ (l : List Push). take (suc n) l) (sym (drop-cons x.sent x.taken no_push (omega (arith, held)))) in
     ap (λ (ws : List Worker). record { workers = ws; folded = s.folded ++ m ∷ [] ++ next_taken (with_taken x 1) n; shown = s.shown; seen = s.seen }) (set_twice s.workers w (with_taken x 1) (with_taken (with_taken x 1) n))
     ∙ ap (λ (y : Worker). record { workers = slice_set s.workers w y; folded = s.folded ++ m ∷ [] ++ next_taken (with_taken x 1) n; shown = s.shown; seen = s.seen }) same
     ∙ ap (λ (ms : List Push). record { workers = slice_set s.workers w (with_taken x (suc n)); folded = ms; shown = s.shown; seen = s.seen })
-        (append_assoc s.folded (m ∷ []) (next_taken (with_taken x 1) n) ∙ ap (λ (l : List Push). s.folded ++ l) front)
+    (append_assoc s.folded (m ∷ []) (next_taken (with_taken x 1) n) ∙ ap (λ (l : List Push). s.folded ++ l) front)
 
 -- the oldest messages of a lane are folded
 takes_run : (t : Terms) (readers w n : ℕ) (events : List Event) (s : State) → lag_run t readers events ≡ s → w < length s.workers
@@ -126,14 +127,14 @@ takes_run : (t : Terms) (readers w n : ℕ) (events : List Event) (s : State) �
 takes_run t readers w zero events s is within held =
     let x = worker_in s w in
     ap (lag_run t readers) (append-nil events) ∙ is ∙ sym (
-        ap (λ (n : ℕ). stepped s w (record { counted = x.counted; sent = x.sent; refused = x.refused; taken = n }) []) (add-zero x.taken)
-        ∙ ap (λ (ms : List Push). record { workers = slice_set s.workers w x; folded = ms; shown = s.shown; seen = s.seen }) (append-nil s.folded)
-        ∙ same_worker s w)
+    ap (λ (n : ℕ). stepped s w (record { counted = x.counted; sent = x.sent; refused = x.refused; taken = n }) []) (add-zero x.taken)
+    ∙ ap (λ (ms : List Push). record { workers = slice_set s.workers w x; folded = ms; shown = s.shown; seen = s.seen }) (append-nil s.folded)
+    ∙ same_worker s w)
 takes_run t readers w (suc n) events s is within held =
     let x = worker_in s w in
     let one = stepped s w (with_taken x 1) (message_at x.sent x.taken ∷ []) in
     let now : lag_run t readers (events ++ Take w ∷ []) ≡ one =
-        run_more t readers events (Take w) ∙ ap (λ (z : State). (lag_step t z (Take w)).0) is ∙ take_once t s w (omega (arith, held)) in
+    run_more t readers events (Take w) ∙ ap (λ (z : State). (lag_step t z (Take w)).0) is ∙ take_once t s w (omega (arith, held)) in
     let there : worker_in one w ≡ with_taken x 1 = get_or-set_same s.workers w (with_taken x 1) fresh_worker within in
     let inside : w < length one.workers = rw (length-set s.workers w (with_taken x 1)) within in
     let few : n ≤ held_of (worker_in one w) = subst (λ (y : Worker). n ≤ held_of y) (sym there) (omega (arith, held)) in

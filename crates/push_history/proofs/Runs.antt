@@ -47,12 +47,12 @@ count_times_run t readers w zero events s is within = is ∙ sym (same_worker s 
 count_times_run t readers w (suc n) events s is within =
     let c = count_step t w (worker_in s w) in
     let next : lag_run t readers (events ++ Update w ∷ []) ≡ with_worker s w c.0 =
-        update_run t readers events w ∙ ap (λ (z : State). with_worker z w (count_step t w (worker_in z w)).0) is in
+    update_run t readers events w ∙ ap (λ (z : State). with_worker z w (count_step t w (worker_in z w)).0) is in
     let reply : reply_to t readers events (Update w) ≡ c.1 = update_reply t readers events w ∙ ap (λ (z : State). (count_step t w (worker_in z w)).1) is in
     let inside : w < length (with_worker s w c.0).workers = rw (length-set s.workers w c.0) within in
     let rest : lag_run t readers (count_times t readers w n (events ++ Update w ∷ [])) ≡ with_worker s w (counts t w n c.0) =
-        count_times_run t readers w n (events ++ Update w ∷ []) (with_worker s w c.0) next inside
-        ∙ worker_twice s w c.0 (counts t w n (worker_in (with_worker s w c.0) w))
-        ∙ ap (λ (x : Worker). with_worker s w (counts t w n x)) (worker_there s w c.0 within) in
+    count_times_run t readers w n (events ++ Update w ∷ []) (with_worker s w c.0) next inside
+    ∙ worker_twice s w c.0 (counts t w n (worker_in (with_worker s w c.0) w))
+    ∙ ap (λ (x : Worker). with_worker s w (counts t w n x)) (worker_there s w c.0 within) in
     rw reply (elim (is_waits c.1) as (λ b. lag_run t readers (if b then events ++ Update w ∷ [] else count_times t readers w n (events ++ Update w ∷ []))
-        ≡ with_worker s w (if b then c.0 else counts t w n c.0)) [ true ↦ next | false ↦ rest ])
+    ≡ with_worker s w (if b then c.0 else counts t w n c.0)) [ true ↦ next | false ↦ rest ])
