@@ -1,5 +1,6 @@
 pub mod HeldRanks
 pub mod HeldSums
+pub mod Places
 pub mod RankLaws
 pub mod RowLists
 pub mod SumLaws
