@@ -3,24 +3,23 @@ use Rattle.std.proofs.Common.{◌≡◌, ◌<◌, ◌≤◌, ◌+◌, ◌*◌, �
 use Rattle.std.specs.Prelude.{sum_by, if◌then◌else◌}
 use Rattle.std.specs.Int.{int_min, int_wrap, w64}
 use Rattle.std.specs.List.{flat_map, range_with_len}
-use Rattle.std.specs.Str.{bytes_eq}
 use Rattle.std.proofs.lemmas.Bool.{eqb-true, eq-eqb, true≢false}
 use Rattle.std.proofs.lemmas.Int.{int_wrap_fits, ints, clamps}
 use Rattle.std.proofs.lemmas.List.FromFn.{get_or-map-range_with_len}
 use Rattle.std.proofs.lemmas.List.Sums.{fold-append, sum_by-cons, sum_by-le-sum_by}
 use Rattle.std.proofs.Math.Nat.{mul-le-mul_left, eq-or-lt_of_le}
-use Rattle.std.proofs.lemmas.Slice.Eq.{bytes_eq-Decides}
 use Rattle.packet_key.specs.declared.key.FlowKey.{FlowKey}
-use Rattle.packet_key.specs.KeyBytes.{bytes_of}
 use Rattle.hash_rows.specs.declared.shape.Shape.{Shape}
 use Rattle.hash_rows.specs.declared.shape.Packet.{Packet}
 use Rattle.hash_rows.specs.Amounts.{key_amount, total_amount}
+use Rattle.hash_rows.specs.Keys.{same_key}
 use Rattle.hash_rows.specs.Rules.{Rules, sums}
 use Rattle.hash_rows.specs.Sequential.{packet_values, cell_values, sequential, sequential_table}
 use Rattle.hash_rows.specs.Shapes.{IsShape, place_of, size_of}
 use Rattle.hash_rows.specs.Sketches.{is_sum, least_of, sum_join, count_min_value, count_min_estimate, key_cells, rows_of}
 use Rattle.hash_rows.specs.Tables.{value_at}
-use Rattle.hash_rows.proofs.Places.{place_within, row_of_place, place_by_bytes}
+use Rattle.hash_rows.proofs.EqualKeys.{same_key-eq}
+use Rattle.hash_rows.proofs.Places.{place_within, row_of_place}
 use Rattle.hash_rows.proofs.SumLaws.{sum_join_is, fits_sum}
 
 -- a sum of amounts that doesn't reach 2 ^ 63 is the sum
@@ -119,14 +118,14 @@ added_most shape lawful cell p =
     omega arith
 
 added_least : (shape : Shape) (key : FlowKey) (row : ℕ) → row < shape.rows → (p : Packet)
-    → (if bytes_eq (bytes_of p.key) (bytes_of key) then p.amount else 0) ≤ added shape (place_of shape key row) p
+    → (if same_key p.key key then p.amount else 0) ≤ added shape (place_of shape key row) p
 unfolding added rows_at
-added_least shape key row within p = by_test (bytes_eq (bytes_of p.key) (bytes_of key)) refl where
-  by_test : (b : Bool) → bytes_eq (bytes_of p.key) (bytes_of key) ≡ b → (if b then p.amount else 0) ≤ added shape (place_of shape key row) p
+added_least shape key row within p = by_test (same_key p.key key) refl where
+  by_test : (b : Bool) → same_key p.key key ≡ b → (if b then p.amount else 0) ≤ added shape (place_of shape key row) p
   by_test true same =
       let test : ℕ → Bool = λ r. place_of shape p.key r == place_of shape key row in
-      let bytes = (bytes_eq-Decides (bytes_of p.key) (bytes_of key)).0 same in
-      let here : test row ≡ true = eq-eqb (place_of shape p.key row) (place_of shape key row) (place_by_bytes shape p.key key row bytes) in
+      let place : place_of shape p.key row ≡ place_of shape key row = ap (λ k. place_of shape k row) (same_key-eq p.key key same) in
+      let here : test row ≡ true = eq-eqb (place_of shape p.key row) (place_of shape key row) place in
       let once = mul-le-mul_left p.amount (once_at_least test row here 0 shape.rows (omega arith) (omega arith)) in
       omega arith
   by_test false other = omega arith
@@ -139,7 +138,7 @@ cell_at_least shape lawful packets key row within total =
     let most : sum_by (added shape cell) packets ≤ sum_by (λ p. p.amount) packets =
         sum_by-le-sum_by (added shape cell) (λ p. p.amount) packets (added_most shape lawful cell) in
     let least : key_amount packets key ≤ sum_by (added shape cell) packets =
-        sum_by-le-sum_by (λ p. if bytes_eq (bytes_of p.key) (bytes_of key) then p.amount else 0) (added shape cell) packets (added_least shape key row within) in
+        sum_by-le-sum_by (λ p. if same_key p.key key then p.amount else 0) (added shape cell) packets (added_least shape key row within) in
     let whole = packets_joined shape cell packets 0 (omega arith) in
     subst (λ x. pos (key_amount packets key) ≤ℤ x) (sym whole) (omega (arith, ints))
 

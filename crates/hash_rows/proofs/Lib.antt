@@ -1,3 +1,4 @@
+pub mod EqualKeys
 pub mod HeldRanks
 pub mod HeldSums
 pub mod Places

@@ -3,9 +3,8 @@ use Rattle.std.proofs.Common.{◌≡◌, ◌<◌, ◌≤◌, ◌+◌, ◌*◌, �
 use Rattle.std.proofs.Math.Nat.{mul-le-mul_right}
 use Rattle.std.proofs.lemmas.Nat.{div-mul-add}
 use Rattle.packet_key.specs.declared.key.FlowKey.{FlowKey}
-use Rattle.packet_key.specs.KeyBytes.{bytes_of}
 use Rattle.hash_rows.specs.declared.shape.Shape.{Shape}
-use Rattle.hash_rows.specs.Hash.{fnv_of, mix_of, key_hash_of, row_hash_of}
+use Rattle.hash_rows.specs.Hash.{row_hash_of}
 use Rattle.hash_rows.specs.Shapes.{IsShape, place_of, size_of}
 
 -- the cell is in the table
@@ -20,9 +19,3 @@ place_within shape lawful key row within =
 pub row_of_place : (shape : Shape) → IsShape shape → (key : FlowKey) (row : ℕ) → place_of shape key row / shape.columns ≡ row
 unfolding place_of
 row_of_place shape lawful key row = div-mul-add row shape.columns (row_hash_of key row % shape.columns) (omega (arith, lawful.some_columns))
-
--- keys of the same bytes have the same cells
-pub place_by_bytes : (shape : Shape) (a b : FlowKey) (row : ℕ) → bytes_of a ≡ bytes_of b → place_of shape a row ≡ place_of shape b row
-unfolding place_of row_hash_of key_hash_of
-place_by_bytes shape a b row same =
-    ap (λ bytes. row * shape.columns + mix_of ((fnv_of bytes + (row + 1) * 0x9E3779B97F4A7C15) % 2 ^ 64) % shape.columns) same
