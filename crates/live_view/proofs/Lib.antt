@@ -1,2 +1,5 @@
 mod Lists
+mod Layouts
 mod Shown
+mod Kept
+mod Copied

@@ -1,6 +1,7 @@
 //! States that one thread folds messages into and others read.
 #![tactic(auto)]
 
+mod copies;
 mod layout;
 mod state;
 
