@@ -58,8 +58,8 @@ heavy_more r l messages m heavy table is shape cells true keyed =
     let before : heavy ≡ all_noted fresh (notes_of r l.shape messages) = is ∙ ap (λ b. all_noted fresh (cond b (notes_of r l.shape messages) [])) keyed in
     let one : key_noted r table heavy m.key ≡ noted heavy m.key (r.estimate table.shape table.cells m.key) = ap (λ b. cond b (noted heavy m.key (r.estimate table.shape table.cells m.key)) heavy) keyed in
     let all : heavy_after r l (messages ++ m ∷ []) ≡ noted (all_noted fresh (notes_of r l.shape messages)) note.key note.estimate =
-        ap (λ b. all_noted fresh (cond b (notes_of r l.shape (messages ++ m ∷ [])) [])) keyed
-        ∙ (ap (all_noted fresh) (notes_more r l.shape messages m) ∙ fold-append (λ (h : HeavyTable) (n : Flow). noted h n.key n.estimate) fresh (notes_of r l.shape messages) (note ∷ [])) in
+    ap (λ b. all_noted fresh (cond b (notes_of r l.shape (messages ++ m ∷ [])) [])) keyed
+    ∙ (ap (all_noted fresh) (notes_more r l.shape messages m) ∙ fold-append (λ (h : HeavyTable) (n : Flow). noted h n.key n.estimate) fresh (notes_of r l.shape messages) (note ∷ [])) in
     one ∙ ((λ i. noted (before i) m.key (estimate i)) ∙ sym all)
 heavy_more r l messages m heavy table is shape cells false keyed =
     let fresh = fresh_table l.heavy l.least in

@@ -45,4 +45,3 @@ module _ (r : Rules) where
 
 pub fresh_layout : (l : Layout) → layout_of (fresh_state l) ≡ l
 fresh_layout l = λ i. record { shape = l.shape; workers = length-replicate {A = ℕ} l.workers 0 i; heavy = l.heavy; least = l.least }
-

@@ -3,3 +3,4 @@ mod Layouts
 mod Shown
 mod Kept
 mod Copied
+mod Live

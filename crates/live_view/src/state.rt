@@ -63,8 +63,7 @@ impl<K: Kind> State<K> {
         if self.takes(message) {
             self.table.put(message.cell, message.amount);
             raise(&mut self.front, message.worker);
-            self.upto
-                .set(message.worker, u64::from(message.update) + 1);
+            self.upto.set(message.worker, u64::from(message.update) + 1);
             self.folded = self.folded.saturating_add(1);
             note_key(&self.table, &mut self.heavy, &message.key);
         }

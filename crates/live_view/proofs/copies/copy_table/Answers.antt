@@ -21,10 +21,11 @@ loop-cell-preserved g c =
     let inside : cell < length from.cells = search rules in
     let now : c.put.new.self.cells ≡ joined_at g.K.Kind.rules.join into.cells cell c.cell.result = search rules in
     let cells = now in
-    let one = one_copied g.K.Kind.rules (g.met.K.Kind g.world.𝓛 g.world.𝓜 g.world.𝓡 ((λ s x. x), (λ x. x), (λ x. x), (λ x. x))).laws from.cells into.cells cell c.cell.result h.2 h.1 inside c.cell.ensures.value c.cell.ensures.lawful in
-    (ap (λ (t : Figures). t.shape) put ∙ h.0,
-     ap length cells ∙ (length-set into.cells cell _ ∙ h.1),
-     subst (λ (l : List ℤ). AreCopied from.cells l (cell + 1)) (sym cells) one)
+    let one = one_copied g.K.Kind.rules (g.met.K.Kind g.world.𝓛 g.world.𝓜 g.world.𝓡 ((λ s x. x), (λ x. x), (λ x. x), (λ x. x))).laws from.cells into.cells cell c.cell.result h.2 h.1 inside c.cell.ensures.value c.cell.ensures.lawful in (
+      ap (λ (t : Figures). t.shape) put ∙ h.0,
+      ap length cells ∙ (length-set into.cells cell _ ∙ h.1),
+      subst (λ (l : List ℤ). AreCopied from.cells l (cell + 1)) (sym cells) one,
+    )
 
 pub returns : goal.returns
 returns g c =
