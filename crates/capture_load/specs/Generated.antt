@@ -36,18 +36,21 @@ ethernet_header = 2 ∷ 0 ∷ 0 ∷ 0 ∷ 0 ∷ 2 ∷ 2 ∷ 0 ∷ 0 ∷ 0 ∷ 0 
 abbrev pub protocol_of : ℕ → ℕ
 protocol_of flow = if flow % 2 == 0 then 6 else 17
 
--- an IPv4 header of 20 bytes without a checksum, and the first 8 bytes of TCP or UDP
-unfoldable pub packet_bytes : ℕ → List ℕ
-packet_bytes x =
+-- an IPv4 header of 20 bytes without a checksum
+unfoldable pub ip_header : ℕ → List ℕ
+ip_header x =
     (0x45 ∷ 0 ∷ []) ++ to_be_bytes w16 (length_of x - 14)
     ++ (0 ∷ 0 ∷ 0 ∷ 0 ∷ 0x40 ∷ protocol_of (flow_of x) ∷ 0 ∷ 0 ∷ 10 ∷ 0 ∷ 0 ∷ flow_of x ∷ 10 ∷ 0 ∷ 1 ∷ target_of x ∷ [])
-    ++ to_be_bytes w16 (1024 + flow_of x) ++ (0x01 ∷ 0xbb ∷ 0 ∷ 0 ∷ 0 ∷ 0 ∷ [])
+
+-- the ports, and four bytes more of TCP or UDP
+unfoldable pub port_bytes : ℕ → List ℕ
+port_bytes x = to_be_bytes w16 (1024 + flow_of x) ++ (0x01 ∷ 0xbb ∷ 0 ∷ 0 ∷ 0 ∷ 0 ∷ [])
 
 -- the 58 bytes of record i
 unfoldable pub generated_record : ℕ → ℕ → List ℕ
 generated_record start i =
     let x = drawn start i in
-    record_header i x ++ ethernet_header ++ packet_bytes x
+    record_header i x ++ ethernet_header ++ ip_header x ++ port_bytes x
 
 -- the bytes of so many records from number `from` on
 unfoldable pub generated_from : ℕ → ℕ → ℕ → List ℕ

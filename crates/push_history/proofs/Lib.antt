@@ -1,3 +1,13 @@
 pub mod Lists
 pub mod Joins
 pub mod Growing
+pub mod Telling
+pub mod Parts
+pub mod Sharing
+pub mod Folded
+pub mod Runs
+pub mod RoundRuns
+pub mod RoundSteps
+pub mod AskLists
+pub mod AskParts
+pub mod RoundAnswers
