@@ -1,5 +1,5 @@
 -- What the first word says of the command.
-use Rattle.std.proofs.Common.{◌≡◌, ◌∙◌, ℕ, sym, ap, subst, List, [], ◌∷◌, codes, drop, true, false, true≢false, get_or}
+use Rattle.std.proofs.Common.{◌≡◌, ◌∙◌, ℕ, sym, ap, subst, List, [], ◌∷◌, codes, drop, false, true≢false, get_or}
 use Rattle.std.specs.Prelude.{◌==◌, Bool, Option, Some, None, is_some, option_map}
 use Rattle.hash_rows.specs.declared.options.Options.{Options}
 use Rattle.words.specs.Grammar.{Text}

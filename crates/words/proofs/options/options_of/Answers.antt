@@ -1,4 +1,4 @@
-use Rattle.std.proofs.Common.{rules, ℕ, ◌≡◌, ◌∙◌, refl, sym, ap, subst, codes, arith, true, false, true≢false}
+use Rattle.std.proofs.Common.{rules, ℕ, ◌≡◌, ◌∙◌, refl, sym, ap, subst, codes, false, true≢false}
 use Rattle.std.specs.Prelude.{MatchOption, None}
 use Rattle.hash_rows.specs.OptionTexts.{sketch_text}
 use Rattle.hash_rows.specs.declared.options.Sketch.{Sketch}
