@@ -1,8 +1,8 @@
-ghost use Rattle.std.specs.Prelude.{◌≡◌, List, MatchOption, true, false, codes};
+ghost use Rattle.std.specs.Prelude.{◌≡◌, List, true, false, codes};
 ghost use Rattle.words.specs.Grammar.{Part, value_in};
 ghost use Rattle.words.specs.Names.{line_names};
 ghost use Rattle.words.specs.Matches.{AreMatches};
-ghost use Rattle.words.specs.Values.{ReadsKeys};
+ghost use Rattle.words.specs.Values.{Finds, ReadsKeys};
 ghost use Rattle.words.specs.Options.{GivesOptions, GivesShape, HasRegisters, most_rows, usual_rows, usual_threshold, suits};
 
 use crate::values::{
@@ -67,7 +67,7 @@ fn suits(matches: &ArgMatches<'_>, sketch: Sketch) -> bool
 // The shape that the matches hold.
 fn shape_of(matches: &ArgMatches<'_>, sketch: Sketch) -> Option<Shape>
     ensures { (parts : List Part) → AreMatches line_names parts matches.now
-        → MatchOption result ((s : Shape) → GivesShape parts sketch s → ⊥) (GivesShape parts sketch) }
+        → Finds (GivesShape parts sketch) result }
 {
     let usual = usual_rows(sketch);
     let rows = small_or(matches.get_str("rows"), 1, most_rows(sketch), usual)?;
@@ -82,7 +82,7 @@ fn shape_of(matches: &ArgMatches<'_>, sketch: Sketch) -> Option<Shape>
 pub(crate) fn options_of(matches: &ArgMatches<'_>, watch: Keys) -> Option<Options>
     ensures { (parts : List Part) → AreMatches line_names parts matches.now
         → ReadsKeys (value_in (codes "watch") parts) watch.items → watch.room ≡ 16
-        → MatchOption result ((o : Options) → GivesOptions parts o → ⊥) (GivesOptions parts) }
+        → Finds (GivesOptions parts) result }
 {
     let sketch = sketch_or(matches.get_str("sketch"))?;
     if !suits(matches, sketch) {
