@@ -1,9 +1,15 @@
-ghost use Rattle.std.specs.Prelude.{◌≡◌, ◌+◌, ◌≤◌, ◌<◌, length, IsTrue, Ok, Err};
-ghost use Rattle.packet_key.specs.Frame.{u16_of, u32_of, key_at, packet_at, key_of, has_ports, payload_place};
+ghost use Rattle.std.specs.Prelude.{◌≡◌, ◌+◌, ◌≤◌, ◌<◌, length};
+ghost use Rattle.packet_key.specs.Frame.{u16_of, u32_of, address_at, has_ports, payload_place, shows_ports, key_at, packet_at, shows_ports6, key6_at, packet6_at, announced, is_tag, key_behind, key_of};
 
 use crate::{FlowKey, Skip};
 
+// EtherTypes (IEEE 802 numbers) and protocols (IANA).
 const IPV4: u16 = 0x0800;
+const IPV6: u16 = 0x86DD;
+const VLAN_TAG: u16 = 0x8100;
+const SERVICE_TAG: u16 = 0x88A8;
+const TCP: u8 = 6;
+const UDP: u8 = 17;
 
 fn u16_at(frame: &[u8], at: usize) -> u16
     requires { at + 2 ≤ length frame.now }
@@ -19,26 +25,39 @@ fn u32_at(frame: &[u8], at: usize) -> u32
     65536 * u32::from(u16_at(frame, at)) + u32::from(u16_at(frame, at + 2))
 }
 
-// The ports of the packet at `p`, or 0 twice.
-#[tactic(auto, unfolding(crate::specs::Frame::has_ports, crate::specs::Frame::payload_place))]
-fn shows_ports(frame: &[u8], p: usize) -> bool
-    requires fixed { p + 20 ≤ length frame.now }
-    requires small { p < 100 }
-    ensures { result ≡ has_ports frame.now p }
+fn address(frame: &[u8], at: usize) -> [u8; 16]
+    requires { at + 16 ≤ length frame.now }
+    ensures { result ≡ address_at frame.now at }
 {
-    let proto = frame[p + 9];
-    let payload = p + 4 * (frame[p] % 16) as usize;
-    (proto == 6 || proto == 17) && u16_at(frame, p + 6) % 8192 == 0 && frame.len() >= payload + 4
+    let mut address = [0; 16];
+    address.copy_from_slice(&frame[at..at + 16]);
+    address
 }
 
-#[tactic(auto, unfolding(crate::specs::Frame::key_at, crate::specs::Frame::has_ports, crate::specs::Frame::payload_place))]
-fn key_from(frame: &[u8], p: usize) -> FlowKey
+fn carries_ports(protocol: u8) -> bool
+    ensures { result ≡ has_ports protocol }
+{
+    protocol == TCP || protocol == UDP
+}
+
+#[tactic(auto, unfolding(crate::specs::Frame::shows_ports, crate::specs::Frame::payload_place))]
+fn v4_shows_ports(frame: &[u8], p: usize) -> bool
+    requires fixed { p + 20 ≤ length frame.now }
+    requires small { p < 100 }
+    ensures { result ≡ shows_ports frame.now p }
+{
+    let payload = p + 4 * (frame[p] % 16) as usize;
+    carries_ports(frame[p + 9]) && u16_at(frame, p + 6) % 8192 == 0 && frame.len() >= payload + 4
+}
+
+#[tactic(auto, unfolding(crate::specs::Frame::key_at, crate::specs::Frame::shows_ports, crate::specs::Frame::payload_place))]
+fn v4_key(frame: &[u8], p: usize) -> FlowKey
     requires fixed { p + 20 ≤ length frame.now }
     requires small { p < 100 }
     ensures { result ≡ key_at frame.now p }
 {
     let payload = p + 4 * (frame[p] % 16) as usize;
-    let (sport, dport) = if shows_ports(frame, p) {
+    let (sport, dport) = if v4_shows_ports(frame, p) {
         (u16_at(frame, payload), u16_at(frame, payload + 2))
     } else {
         (0, 0)
@@ -53,7 +72,7 @@ fn key_from(frame: &[u8], p: usize) -> FlowKey
 }
 
 #[tactic(auto, unfolding(crate::specs::Frame::packet_at, crate::specs::Frame::payload_place))]
-fn read_packet(frame: &[u8], p: usize) -> Result<FlowKey, Skip>
+fn read_v4(frame: &[u8], p: usize) -> Result<FlowKey, Skip>
     requires small { p < 100 }
     ensures { result ≡ packet_at frame.now p }
 {
@@ -67,10 +86,66 @@ fn read_packet(frame: &[u8], p: usize) -> Result<FlowKey, Skip>
     if frame.len() < p + 4 * (first % 16) as usize {
         return Err(Skip::ShortFrame);
     }
-    Ok(key_from(frame, p))
+    Ok(v4_key(frame, p))
 }
 
-/// The flow key of a frame.
+#[tactic(auto, unfolding(crate::specs::Frame::key6_at, crate::specs::Frame::shows_ports6))]
+fn v6_key(frame: &[u8], p: usize) -> FlowKey
+    requires fixed { p + 40 ≤ length frame.now }
+    requires small { p < 100 }
+    ensures { result ≡ key6_at frame.now p }
+{
+    let proto = frame[p + 6];
+    let (sport, dport) = if carries_ports(proto) && frame.len() >= p + 44 {
+        (u16_at(frame, p + 40), u16_at(frame, p + 42))
+    } else {
+        (0, 0)
+    };
+    FlowKey::V6 {
+        src: address(frame, p + 8),
+        dst: address(frame, p + 24),
+        sport,
+        dport,
+        proto,
+    }
+}
+
+#[tactic(auto, unfolding(crate::specs::Frame::packet6_at))]
+fn read_v6(frame: &[u8], p: usize) -> Result<FlowKey, Skip>
+    requires small { p < 100 }
+    ensures { result ≡ packet6_at frame.now p }
+{
+    if frame.len() < p + 40 {
+        return Err(Skip::ShortFrame);
+    }
+    if frame[p] / 16 != 6 {
+        return Err(Skip::BadIp);
+    }
+    Ok(v6_key(frame, p))
+}
+
+#[tactic(auto, unfolding(crate::specs::Frame::announced))]
+fn read_announced(ethertype: u16, frame: &[u8], p: usize) -> Result<FlowKey, Skip>
+    requires small { p < 100 }
+    ensures { result ≡ announced ethertype frame.now p }
+{
+    match ethertype {
+        IPV4 => read_v4(frame, p),
+        IPV6 => read_v6(frame, p),
+        _ => Err(Skip::NotIp { ethertype }),
+    }
+}
+
+fn tags(ethertype: u16) -> bool
+    ensures { result ≡ is_tag ethertype }
+{
+    ethertype == VLAN_TAG || ethertype == SERVICE_TAG
+}
+
+/// The flow key of an Ethernet II frame, behind at most two VLAN tags, or why it has none.
+///
+/// Ports are those of TCP and UDP, and 0 in a later fragment, where the frame ends before them, and
+/// for any other protocol. Extension headers of IPv6 are not read, nor are lengths and checksums.
 #[tactic(auto, unfolding(crate::specs::Frame::key_of))]
 pub fn read_frame(frame: &[u8]) -> Result<FlowKey, Skip>
     ensures { result ≡ key_of frame.now }
@@ -78,9 +153,19 @@ pub fn read_frame(frame: &[u8]) -> Result<FlowKey, Skip>
     if frame.len() < 14 {
         return Err(Skip::ShortFrame);
     }
-    let ethertype = u16_at(frame, 12);
-    if ethertype != IPV4 {
-        return Err(Skip::NotIp { ethertype });
+    let mut at = 12;
+    let mut tags_left: u8 = 2;
+    let mut ethertype = u16_at(frame, at);
+    while tags(ethertype) {
+        if tags_left == 0 {
+            return Err(Skip::ManyTags);
+        }
+        if frame.len() < at + 6 {
+            return Err(Skip::ShortFrame);
+        }
+        tags_left -= 1;
+        at += 4;
+        ethertype = u16_at(frame, at);
     }
-    read_packet(frame, 14)
+    read_announced(ethertype, frame, at + 2)
 }

@@ -1,4 +1,4 @@
-ghost use Rattle.std.specs.Prelude.{◌≡◌, ◌≤◌, ◌+◌, ◌++◌, length, take};
+ghost use Rattle.std.specs.Prelude.{◌≡◌, ◌+◌, ◌≤◌, ◌++◌, length, take};
 ghost use Rattle.packet_key.specs.KeyBytes.{bytes_of, tail_of};
 
 use crate::put::put;
@@ -34,6 +34,8 @@ pub enum Skip {
 
 /// Writes the key's 13 or 37 bytes at the front of `into`, and answers their number: source,
 /// destination, source port, destination port, protocol, the most significant byte first.
+///
+/// What stands behind them is not specified.
 pub fn key_bytes(key: &FlowKey, into: &mut [u8; 37]) -> usize
     ensures length { result ≡ length (bytes_of key.now) }
     ensures bytes { take result into.new ≡ bytes_of key.now }
@@ -64,11 +66,10 @@ pub fn key_bytes(key: &FlowKey, into: &mut [u8; 37]) -> usize
     }
 }
 
-// Writes ports and protocol at the place, and answers the place behind them.
-fn put_tail(into: &mut [u8], at: usize, sport: u16, dport: u16, proto: u8) -> usize
-    requires { at + 5 ≤ length into.old }
+fn put_tail(into: &mut [u8; 37], at: usize, sport: u16, dport: u16, proto: u8) -> usize
+    requires { at ≤ 32 }
     ensures end { result ≡ at + 5 }
-    ensures front { take result into.new ≡ take at into.old ++ tail_of sport dport proto }
+    ensures written { take result into.new ≡ take at into.old ++ tail_of sport dport proto }
 {
     let at = put(into, at, &sport.to_be_bytes());
     let at = put(into, at, &dport.to_be_bytes());

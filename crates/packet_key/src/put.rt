@@ -1,12 +1,73 @@
-ghost use Rattle.std.specs.Prelude.{◌≡◌, ◌≤◌, ◌+◌, ◌++◌, length, take};
+ghost use Rattle.std.specs.Prelude.{◌≡◌, ◌+◌, ◌≤◌, ◌<◌, ◌++◌, length, take, decimal};
+ghost use Rattle.std.specs.Char.{digit_char};
+ghost use Rattle.std.specs.Net.Text.{hex};
 
-/// Writes the bytes at the place, and answers the place behind them.
-pub(crate) fn put(into: &mut [u8], at: usize, bytes: &[u8]) -> usize
-    requires { at + length bytes.now ≤ length into.old }
-    ensures end { result ≡ at + length bytes.now }
-    ensures front { take result into.new ≡ take at into.old ++ bytes.now }
+use itoa::Buffer;
+
+// Each function writes a piece at `at`, and answers the place behind it.
+pub fn put(into: &mut [u8], at: usize, piece: &[u8]) -> usize
+    requires { at + length piece.now ≤ length into.old }
+    ensures end { result ≡ at + length piece.now }
+    ensures written { take result into.new ≡ take at into.old ++ piece.now }
 {
-    let end = at + bytes.len();
-    into[at..end].copy_from_slice(bytes);
+    let end = at + piece.len();
+    into[at..end].copy_from_slice(piece);
     end
+}
+
+#[tactic(auto, using(crate::proofs::Lengths::byte_is_short))]
+pub fn put_byte(into: &mut [u8], at: usize, byte: u8) -> usize
+    requires { at + 3 ≤ length into.old }
+    ensures most { result ≤ at + 3 }
+    ensures written { take result into.new ≡ take at into.old ++ decimal byte }
+{
+    let mut digits = Buffer::new();
+    put(into, at, digits.format(byte).as_bytes())
+}
+
+#[tactic(auto, using(crate::proofs::Lengths::port_is_short))]
+pub fn put_port(into: &mut [u8], at: usize, port: u16) -> usize
+    requires { at + 5 ≤ length into.old }
+    ensures most { result ≤ at + 5 }
+    ensures written { take result into.new ≡ take at into.old ++ decimal port }
+{
+    let mut digits = Buffer::new();
+    put(into, at, digits.format(port).as_bytes())
+}
+
+fn hex_digit(digit: u16) -> u8
+    requires { digit < 16 }
+    ensures { result ≡ digit_char digit }
+{
+    let digit = digit as u8;
+    if digit < 10 {
+        b'0' + digit
+    } else {
+        b'a' + (digit - 10)
+    }
+}
+
+// The lower-case hexadecimal of a group, without leading zeros.
+#[tactic(auto, unfolding(std::specs::Net::Text::hex))]
+pub fn put_group(into: &mut [u8], at: usize, group: u16) -> usize
+    requires { at + 4 ≤ length into.old }
+    ensures most { result ≤ at + 4 }
+    ensures written { take result into.new ≡ take at into.old ++ hex group }
+{
+    let digits = [
+        hex_digit(group / 0x1000),
+        hex_digit(group / 0x100 % 16),
+        hex_digit(group / 0x10 % 16),
+        hex_digit(group % 16),
+    ];
+    let zeros = if group >= 0x1000 {
+        0
+    } else if group >= 0x100 {
+        1
+    } else if group >= 0x10 {
+        2
+    } else {
+        3
+    };
+    put(into, at, &digits[zeros..])
 }
