@@ -5,7 +5,6 @@ use Rattle.hash_rows.specs.declared.shape.Shape.{Shape}
 use Rattle.hash_rows.specs.declared.shape.Packet.{Packet}
 use Rattle.hash_rows.specs.declared.options.Sketch.{Sketch}
 use Rattle.hash_rows.specs.declared.options.Sketch.TheVariants.{CountMin, CountSketch, LogLog}
-use Rattle.hash_rows.specs.Shapes.{IsShape}
 use Rattle.hash_rows.specs.Sketches.{is_sum, sum_join, sum_gap, sum_distance, sum_small, count_min_value, count_min_estimate, count_sketch_value, count_sketch_estimate, is_rank, rank_join, rank_gap, rank_distance, rank_small, loglog_value, loglog_estimate}
 use Rattle.std.specs.Prelude.{int_le, ◌<◌, ◌^◌}
 
@@ -75,4 +74,4 @@ pub record AreLaws (r : Rules) : Type 0 where
   pub behind_zero : (a : ℤ) → r.is_value a ≡ true → r.is_behind (pos 0) a ≡ true
   pub behind_self : (a : ℤ) → r.is_value a ≡ true → r.is_behind a a ≡ true
   pub behind_join : (told whole a : ℤ) → r.is_value told ≡ true → r.is_value whole ≡ true → r.is_value a ≡ true
-    → r.is_behind told whole ≡ true → r.is_behind told (r.join whole a) ≡ true
+      → r.is_behind told whole ≡ true → r.is_behind told (r.join whole a) ≡ true

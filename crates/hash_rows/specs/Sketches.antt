@@ -1,6 +1,6 @@
 -- The three sketches: what a cell joins, what a packet adds to it, and what the cells say of a key.
 -- Count-Min: Cormode, Muthukrishnan (2005). Count Sketch: Charikar, Chen, Farach-Colton (2002). LogLog: Durand, Flajolet (2003).
-use Rattle.std.specs.Prelude.{ℕ, ◌+◌, ◌-◌, ◌*◌, ◌/◌, ◌%◌, ◌^◌, ◌==◌, ◌&&◌, ℤ, pos, negsuc, ◌-ℤ◌, Bool, true, List, [], ◌∷◌, length, map, fold, sum_by, count_by, min, nat_lt, nat_le, if◌then◌else◌, slice_index_or, unsigned_abs, Option, Some, None, int_lt, int_le}
+use Rattle.std.specs.Prelude.{ℕ, ◌+◌, ◌-◌, ◌*◌, ◌/◌, ◌^◌, ◌==◌, ◌&&◌, ℤ, pos, negsuc, ◌-ℤ◌, Bool, List, [], ◌∷◌, length, map, fold, sum_by, count_by, min, nat_lt, nat_le, if◌then◌else◌, slice_index_or, unsigned_abs, Option, Some, None, int_lt, int_le}
 use Rattle.std.specs.Int.{int_wrapping_add, int_wrapping_sub, int_wrapping_neg, trailing_zeros, w64}
 use Rattle.std.specs.List.{range_with_len}
 use Rattle.packet_key.specs.declared.key.FlowKey.{FlowKey}

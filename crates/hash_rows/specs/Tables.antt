@@ -1,9 +1,8 @@
 -- A table as a list of cells.
-use Rattle.std.specs.Prelude.{◌≡◌, ◌<◌, ℕ, ◌+◌, ◌*◌, ℤ, pos, List, slice_range, slice_index_or, slice_set, count_by, not, refl}
+use Rattle.std.specs.Prelude.{ℕ, ◌+◌, ◌*◌, ℤ, pos, List, slice_range, slice_index_or, slice_set, count_by, not, refl}
 use Rattle.std.specs.Ordering.{int_eq}
 use Rattle.std.specs.Coded.{Coded, code_by, coded×, coded_ℕ, coded_ℤ, coded_list}
 use Rattle.hash_rows.specs.declared.shape.Shape.{Shape}
-use Rattle.hash_rows.specs.Shapes.{size_of}
 
 pub record Figures : Type 0 where
   pub shape : Shape

@@ -51,12 +51,19 @@ impl Bits {
         ensures { result ≡ count_by (λ mark. mark) self.now }
     {
         let _len = self.marks.len();
-        let mut count = 0u32;
-        for mark in self.marks.as_slice() {
-            if *mark {
-                count += 1;
-            }
-        }
-        count
+        set_in(self.marks.as_slice()) as u32
     }
+}
+
+// How many of the marks are set.
+fn set_in(marks: &[bool]) -> usize
+    ensures { result ≡ count_by (λ mark. mark) marks.now }
+{
+    let mut count = 0;
+    for mark in marks {
+        if *mark {
+            count += 1;
+        }
+    }
+    count
 }
