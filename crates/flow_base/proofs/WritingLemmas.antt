@@ -1,16 +1,30 @@
 -- Texts that are written part by part.
-use Rattle.std.proofs.Common.{◌≡◌, ℕ, List, ◌++◌, Option, Result, Ok, Err, ◌∙◌, sym, ap}
+use Rattle.std.proofs.Common.{◌≡◌, ℕ, ◌+◌, ◌<◌, ◌≤◌, List, [], ◌∷◌, ◌++◌, length, take, drop, get_or, Option, Result, Ok, Err, ◌∙◌, sym, ap, subst, arith}
+use Rattle.std.specs.Result.{IsErr}
+use Rattle.std.specs.List.{flat_map}
+use Rattle.std.proofs.lemmas.List.{append-nil, take_more, take-append-drop}
+use Rattle.std.proofs.Math.Seq.{take-length}
+use Rattle.std.proofs.lemmas.Grind.{flat_map-append}
 use Rattle.flow_base.specs.Flow.{grown, TookFront}
 use Rattle.flow_base.specs.Writing.{Writes}
-use Rattle.flow_base.proofs.FlowLemmas.{grown-append, took_first, took_second}
+use Rattle.flow_base.proofs.FlowLemmas.{grown-append, grown-nil, took_first, took_second}
+
+-- nothing is written
+pub writes_none : {T E : Type 0} (old : Option (List ℕ)) (x : T) → Writes {T = T} {E = E} old old [] (Ok x)
+writes_none old x = record { ok = sym (grown-nil old); err = tt }
+
+-- what was written is a front of the text
+pub writes_front : {U F : Type 0} (old new : Option (List ℕ)) (text : List ℕ) (result : Result U F) → IsErr result → TookFront old new text → Writes {T = U} {E = F} old new text result
+writes_front old new text (Ok y) failed took = cc
+writes_front old new text (Err e) failed took = record { ok = tt; err = took }
 
 -- where the first part fails, nothing of the second is written
-pub writes_stop : {T U E F : Type 0} {old new : Option (List ℕ)} {first : List ℕ} {e : E} (second : List ℕ) (f : F)
-    → Writes {T = T} {E = E} old new first (Err e) → Writes {T = U} {E = F} old new (first ++ second) (Err f)
-writes_stop {old = old} {new = new} {first = first} second f wrote = record {
-  ok = tt;
-  err = took_first old new first second wrote.err;
-}
+pub stop : {old new : Option (List ℕ)} {first : List ℕ} (second : List ℕ) → TookFront old new first → TookFront old new (first ++ second)
+stop {old = old} {new = new} {first = first} second took = took_first old new first second took
+
+-- the first part whole, and a front of the second
+pub then_stop : {T E : Type 0} {old mid new : Option (List ℕ)} {first second : List ℕ} {x : T} → Writes {T = T} {E = E} old mid first (Ok x) → TookFront mid new second → TookFront old new (first ++ second)
+then_stop {old = old} {mid = mid} {new = new} {first = first} {second = second} before took = took_second old mid new first second before.ok took
 
 -- the first part, and then the second
 pub writes_then : {T U E F : Type 0} {old mid new : Option (List ℕ)} {first second : List ℕ} {x : T} (result : Result U F)
@@ -23,3 +37,41 @@ writes_then {old = old} {mid = mid} {new = new} {first = first} {second = second
   ok = tt;
   err = took_second old mid new first second before.ok wrote.err;
 }
+
+-- the texts of the first items, and of one more
+more_text : {X : Type 0} (text : X → List ℕ) (xs : List X) (i : ℕ) (d : X) → i < length xs
+    → flat_map text (take (i + 1) xs) ≡ flat_map text (take i xs) ++ text (get_or xs i d)
+more_text text xs i d within =
+    ap (flat_map text) (take_more xs i d within)
+    ∙ flat_map-append text (take i xs) (get_or xs i d ∷ [])
+    ∙ ap (λ (t : List ℕ). flat_map text (take i xs) ++ t) (append-nil (text (get_or xs i d)))
+
+-- in a loop over a list, the text of one more item
+pub writes_item : {T U E F : Type 0} {X : Type 0} {old mid new : Option (List ℕ)} {x : T} {y : U} (text : X → List ℕ) (xs : List X) (i : ℕ) (d : X) (z : T) → i < length xs
+    → Writes {T = T} {E = E} old mid (flat_map text (take i xs)) (Ok x) → Writes {T = U} {E = F} mid new (text (get_or xs i d)) (Ok y)
+    → Writes {T = T} {E = E} old new (flat_map text (take (i + 1) xs)) (Ok z)
+writes_item {T = T} {E = E} {old = old} {mid = mid} {new = new} text xs i d z within before wrote =
+    let both : Writes {T = T} {E = E} old new (flat_map text (take i xs) ++ text (get_or xs i d)) (Ok z) =
+        writes_then (Ok z) before (record { ok = wrote.ok; err = tt }) in
+    subst (λ (t : List ℕ). Writes {T = T} {E = E} old new t (Ok z)) (sym (more_text text xs i d within)) both
+
+-- and where it fails, a front of all of them stands
+pub writes_item_stop : {T U E F G : Type 0} {X : Type 0} {old mid new : Option (List ℕ)} {x : T} {e : F} (text : X → List ℕ) (xs : List X) (i : ℕ) (d : X) (result : Result T G) → i < length xs → IsErr result
+    → Writes {T = T} {E = E} old mid (flat_map text (take i xs)) (Ok x) → Writes {T = U} {E = F} mid new (text (get_or xs i d)) (Err e)
+    → Writes {T = T} {E = G} old new (flat_map text xs) result
+writes_item_stop {T = T} {G = G} {old = old} {mid = mid} {new = new} text xs i d result within failed before wrote =
+    let rest : List ℕ = flat_map text (drop (i + 1) xs) in
+    let first : Writes {T = T} {E = G} old new ((flat_map text (take i xs) ++ text (get_or xs i d)) ++ rest) result =
+        writes_front old new _ result failed (took_first old new (flat_map text (take i xs) ++ text (get_or xs i d)) rest (took_second old mid new (flat_map text (take i xs)) (text (get_or xs i d)) before.ok wrote.err)) in
+    let whole : (flat_map text (take i xs) ++ text (get_or xs i d)) ++ rest ≡ flat_map text xs =
+        ap (λ (t : List ℕ). t ++ rest) (sym (more_text text xs i d within))
+        ∙ sym (flat_map-append text (take (i + 1) xs) (drop (i + 1) xs))
+        ∙ ap (flat_map text) (take-append-drop (i + 1) xs) in
+    subst (λ (t : List ℕ). Writes {T = T} {E = G} old new t result) whole first
+
+-- at its end, all of them
+pub writes_items : {T E : Type 0} {X : Type 0} {old new : Option (List ℕ)} {x : T} (text : X → List ℕ) (xs : List X) (i : ℕ) → length xs ≤ i → i ≤ length xs
+    → Writes {T = T} {E = E} old new (flat_map text (take i xs)) (Ok x) → Writes {T = T} {E = E} old new (flat_map text xs) (Ok x)
+writes_items {T = T} {E = E} {old = old} {new = new} {x = x} text xs i past within wrote =
+    let all : take i xs ≡ xs = ap (λ (n : ℕ). take n xs) (omega arith) ∙ take-length xs in
+    subst (λ (t : List ℕ). Writes {T = T} {E = E} old new t (Ok x)) (ap (flat_map text) all) wrote

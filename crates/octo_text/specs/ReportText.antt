@@ -8,6 +8,10 @@ use Rattle.hash_rows.specs.OptionTexts.{sketch_text, amount_text}
 use Rattle.octo_text.specs.declared.report.Report.{Report}
 use Rattle.octo_text.specs.declared.report.Tallies.{Tallies}
 
+-- some words
+unfoldable pub words_line : List ℕ → List ℕ
+words_line words = words ++ codes "\n"
+
 -- a name, a space and a number
 unfoldable pub count_line : List ℕ → ℕ → List ℕ
 count_line name number = name ++ codes " " ++ decimal number ++ codes "\n"
@@ -67,9 +71,9 @@ estimate_lines (Some estimate) r = distinct_line estimate
 -- the report
 unfoldable pub report_text : Report → List ℕ
 report_text r =
-    codes "octosketch report 1\n"
+    words_line (codes "octosketch report 1")
     ++ sketch_line r
     ++ capture_lines r
     ++ table_lines r
     ++ estimate_lines r.distinct r
-    ++ codes "end\n"
+    ++ words_line (codes "end")

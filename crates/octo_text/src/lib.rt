@@ -4,4 +4,4 @@
 mod line;
 mod report;
 
-pub use report::{Report, Tallies};
+pub use report::{Report, Tallies, write_report};

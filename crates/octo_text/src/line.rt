@@ -54,6 +54,16 @@ impl Line {
         self.text(Buffer::new().format(number).as_bytes());
     }
 
+    /// Words, and the number behind them.
+    pub(crate) fn named(&mut self, words: &[u8], number: u64)
+        requires { length self.old + length words.now + 20 ≤ 1024 }
+        ensures text { self.new ≡ self.old ++ words.now ++ decimal number }
+        ensures room { length self.new ≤ length self.old + length words.now + 20 }
+    {
+        self.text(words);
+        self.number(number);
+    }
+
     pub(crate) fn signed(&mut self, number: i64)
         requires { length self.old + 20 ≤ 1024 }
         ensures text { self.new ≡ self.old ++ signed_decimal number }
