@@ -1,2 +1,7 @@
+pub mod Bytes
 mod Lengths
+pub mod OneText
+pub mod Ordered
+mod Sockets
+mod Splits
 mod Tags

@@ -1,5 +1,5 @@
 -- One step of the walk over the tags of a frame.
-use Rattle.std.proofs.Common.{◌≡◌, ◌∙◌, ℕ, zero, suc, ◌+◌, ◌-◌, ◌<◌, ◌≤◌, List, length, true, false, Result, Ok, Err, refl, sym, ap, arith, rules}
+use Rattle.std.proofs.Common.{◌≡◌, ◌∙◌, ℕ, zero, suc, ◌+◌, ◌-◌, ◌<◌, ◌≤◌, List, length, true, false, Err, refl, ap, arith}
 use Rattle.std.proofs.lemmas.Bool.{le-ltb, lt-ltb}
 use Rattle.packet_key.specs.declared.key.Skip.TheVariants.{ShortFrame, ManyTags}
 use Rattle.packet_key.specs.Frame.{u16_of, is_tag, announced, key_behind, key_of}
