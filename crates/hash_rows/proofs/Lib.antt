@@ -1,1 +1,5 @@
+pub mod HeldSums
+pub mod RankLaws
+pub mod RowLists
+pub mod SumLaws
 pub mod Values

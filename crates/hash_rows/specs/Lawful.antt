@@ -1,10 +1,9 @@
 -- Lawful options.
-use Rattle.std.specs.Prelude.{◌≡◌, ◌≤◌, ◌≤ℤ◌, ◌⊎◌, ℕ, pos, List, [], length}
-use Rattle.std.specs.List.{IsDistinctByAny}
+use Rattle.std.specs.Prelude.{◌≡◌, ◌≢◌, ◌≤◌, ◌≤ℤ◌, ◌⊎◌, ℕ, ℤ, pos, List, [], ◌∷◌, length, AllPairs}
 use Rattle.packet_key.specs.declared.key.FlowKey.{FlowKey}
 use Rattle.hash_rows.specs.declared.options.Options.{Options}
 use Rattle.hash_rows.specs.declared.options.Sketch.{Sketch}
-use Rattle.hash_rows.specs.declared.options.Sketch.TheVariants.{LogLog}
+use Rattle.hash_rows.specs.declared.options.Sketch.TheVariants.{CountMin, CountSketch, LogLog}
 use Rattle.hash_rows.specs.declared.shape.Shape.{Shape}
 use Rattle.hash_rows.specs.Shapes.{IsShape}
 
@@ -33,7 +32,7 @@ pub record IsLawful (o : Options) : Type 0 where
   pub readers : o.readers ≤ 4
   pub asks : o.asks ≤ 1024
   pub watch : length o.watch.items ≤ 16
-  pub distinct : IsDistinctByAny o.watch.items
+  pub distinct : AllPairs (λ a b. a ≢ b) o.watch.items
   pub some_heavy : 1 ≤ o.heavy
   pub heavy : o.heavy ≤ 1024
   pub some_least : pos 1 ≤ℤ o.least

@@ -1,7 +1,7 @@
 -- The three sketches: what a cell joins, what a packet adds to it, and what the cells say of a key.
 -- Count-Min: Cormode, Muthukrishnan (2005). Count Sketch: Charikar, Chen, Farach-Colton (2002). LogLog: Durand, Flajolet (2003).
 use Rattle.std.specs.Prelude.{ℕ, ◌+◌, ◌-◌, ◌*◌, ◌/◌, ◌^◌, ◌==◌, ◌&&◌, ℤ, pos, negsuc, ◌-ℤ◌, Bool, List, [], ◌∷◌, length, map, fold, sum_by, count_by, min, nat_lt, nat_le, if◌then◌else◌, slice_index_or, unsigned_abs, Option, Some, None, int_lt, int_le}
-use Rattle.std.specs.Int.{int_wrapping_add, int_wrapping_sub, int_wrapping_neg, trailing_zeros, w64}
+use Rattle.std.specs.Int.{int_max, int_min, int_wrapping_add, int_wrapping_sub, int_wrapping_neg, trailing_zeros, w64}
 use Rattle.std.specs.List.{range_with_len}
 use Rattle.packet_key.specs.declared.key.FlowKey.{FlowKey}
 use Rattle.hash_rows.specs.declared.shape.Shape.{Shape}
@@ -25,9 +25,12 @@ sum_gap told whole = int_wrapping_sub w64 whole told
 abbrev pub sum_distance : ℤ → ℤ → ℕ
 sum_distance told whole = unsigned_abs (sum_gap told whole)
 
--- the gap, where it is from -127 to 127
+-- a gap in one byte, where it is from -127 to 127
+abbrev pub small_gap : ℤ → Option ℤ
+small_gap gap = if nat_le (unsigned_abs gap) 127 then Some gap else None
+
 abbrev pub sum_small : ℤ → ℤ → Option ℤ
-sum_small told whole = if nat_le (sum_distance told whole) 127 then Some (sum_gap told whole) else None
+sum_small told whole = small_gap (sum_gap told whole)
 
 -- what the packet adds to its cells of a Count-Min
 abbrev pub count_min_value : Shape → Packet → ℕ → ℤ
@@ -48,14 +51,10 @@ rows_of shape = range_with_len 0 shape.rows
 unfoldable pub key_cells : Shape → List ℤ → FlowKey → List ℤ
 key_cells shape cells key = map (λ row. value_at cells (place_of shape key row)) (rows_of shape)
 
--- the lesser of two numbers
-abbrev pub lesser : ℤ → ℤ → ℤ
-lesser a b = if int_lt b a then b else a
-
 -- the least of some numbers
 abbrev pub least_of : List ℤ → ℤ
 least_of [] = pos 0
-least_of (x ∷ xs) = fold lesser x xs
+least_of (x ∷ xs) = fold int_min x xs
 
 unfoldable pub count_min_estimate : Shape → List ℤ → FlowKey → ℤ
 count_min_estimate shape cells key = least_of (key_cells shape cells key)
@@ -87,7 +86,7 @@ abbrev pub is_rank : ℤ → Bool
 is_rank a = int_le (pos 0) a && int_le a (pos 32)
 
 abbrev pub rank_join : ℤ → ℤ → ℤ
-rank_join a b = if int_lt a b then b else a
+rank_join a b = int_max a b
 
 abbrev pub rank_gap : ℤ → ℤ → ℤ
 rank_gap told whole = if int_lt told whole then whole else pos 0

@@ -6,7 +6,7 @@ use Rattle.packet_key.specs.KeyText.{text_of}
 use Rattle.hash_rows.specs.declared.shape.Flow.{Flow}
 use Rattle.hash_rows.specs.OptionTexts.{sketch_text, amount_text}
 use Rattle.octo_text.specs.declared.report.Report.{Report}
-use Rattle.octo_text.specs.declared.report.Tallies.{Tallies}
+use Rattle.hash_rows.specs.declared.shape.Tallies.{Tallies}
 
 -- some words
 unfoldable pub words_line : List ℕ → List ℕ

@@ -4,4 +4,4 @@
 mod line;
 mod report;
 
-pub use report::{Report, Tallies, write_report};
+pub use report::{Report, write_report};

@@ -6,7 +6,7 @@ ghost use Rattle.packet_key.specs.KeyText.{text_of};
 
 use flow_base::{Failed, Sink, write_all};
 use itoa::Buffer;
-use packet_key::{FlowKey, key_text};
+use packet_key::{FlowKey, key_text, put};
 use std::marker::Model;
 
 /// A line that is being written. It has at most 1,024 bytes.
@@ -41,9 +41,7 @@ impl Line {
         ensures text { self.new ≡ self.old ++ bytes.now }
         ensures room { length self.new ≤ length self.old + length bytes.now }
     {
-        let end = self.len + bytes.len();
-        self.bytes[self.len..end].copy_from_slice(bytes);
-        self.len = end;
+        self.len = put(&mut self.bytes, self.len, bytes);
     }
 
     pub(crate) fn number(&mut self, number: u64)

@@ -7,16 +7,7 @@ ghost use Rattle.std.specs.List.{flat_map, enumerate_from};
 
 use crate::line::Line;
 use flow_base::{Failed, Sink};
-use hash_rows::{Amount, Counts, Flow, Flows, Shape, Sketch};
-
-/// How many records have no key, by what is wrong with them.
-#[derive(Clone, Copy, Debug, PartialEq, Eq)]
-pub struct Tallies {
-    pub short: u64,
-    pub not_ip: u64,
-    pub bad_ip: u64,
-    pub tags: u64,
-}
+use hash_rows::{Amount, Counts, Flow, Flows, Shape, Sketch, Tallies};
 
 /// What a report tells.
 #[derive(Drop)]
@@ -45,7 +36,6 @@ pub struct Report {
     pub flows: Flows,
 }
 
-#[tactic(auto, unfolding(hash_rows::specs::OptionTexts::sketch_text))]
 fn sketch_word(sketch: Sketch) -> &'static [u8]
     ensures text { result.now ≡ sketch_text sketch }
     ensures room { length result.now ≤ 20 }
@@ -57,7 +47,6 @@ fn sketch_word(sketch: Sketch) -> &'static [u8]
     }
 }
 
-#[tactic(auto, unfolding(hash_rows::specs::OptionTexts::amount_text))]
 fn amount_word(amount: Amount) -> &'static [u8]
     ensures text { result.now ≡ amount_text amount }
     ensures room { length result.now ≤ 20 }

@@ -1,7 +1,7 @@
 ghost use Rattle.std.specs.Prelude.{◌≡◌, ◌+◌, ◌≤◌, ◌++◌, length, take};
 ghost use Rattle.packet_key.specs.KeyBytes.{bytes_of, tail_of};
 
-use crate::put::put;
+use crate::pieces::put;
 
 /// The ends of a flow and its protocol. Every `V4` key is before every `V6` key; within a family
 /// the order is that of the key's bytes.

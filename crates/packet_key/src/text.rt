@@ -7,7 +7,7 @@ ghost use Rattle.packet_key.specs.KeyText.{v4_end, v6_end, flow_text, text_of};
 use std::net::Ipv6Addr;
 
 use crate::FlowKey;
-use crate::put::{put, put_byte, put_group, put_port};
+use crate::pieces::{put, put_byte, put_group, put_port};
 
 fn put_dotted(into: &mut [u8; 100], at: usize, address: u32) -> usize
     requires { at ≤ 85 }

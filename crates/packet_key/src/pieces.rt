@@ -5,6 +5,8 @@ ghost use Rattle.std.specs.Net.Text.{hex};
 use itoa::Buffer;
 
 // Each function writes a piece at `at`, and answers the place behind it.
+
+/// Writes the bytes at the place, and answers the place behind them.
 pub fn put(into: &mut [u8], at: usize, piece: &[u8]) -> usize
     requires { at + length piece.now ≤ length into.old }
     ensures end { result ≡ at + length piece.now }

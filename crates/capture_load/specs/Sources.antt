@@ -1,0 +1,7 @@
+-- What a generated source has left.
+use Rattle.std.specs.Prelude.{ℕ, List, ◌++◌, take, drop}
+use Rattle.capture_load.specs.declared.generated.GenSource.{GenSource}
+use Rattle.capture_load.specs.Generated.{generated_from}
+
+abbrev pub left_of : GenSource → List ℕ
+left_of source = drop source.at (take source.end source.part) ++ generated_from source.start source.next source.ahead

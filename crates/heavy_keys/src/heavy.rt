@@ -1,0 +1,177 @@
+ghost use Rattle.std.specs.Prelude.{◌≡◌, ◌<◌, ◌≤◌, ◌+◌, ◌++◌, ◌∷◌, [], false, length, slice_get, Some, IfOk};
+ghost use Rattle.indexmap.specs.IndexMap.{keys as keys_of_map, spare};
+ghost use Rattle.heavy_keys.specs.Noted.{fresh_table, is_among, is_due, noted};
+
+use flow_base::NoMemory;
+use indexmap::IndexMap;
+use packet_key::FlowKey;
+use std::alloc::Global;
+use std::marker::Model;
+
+/// The first keys whose estimate reached `least`, in the order in which they came, and how often
+/// a further key found no room.
+#[derive(Drop)]
+pub struct Heavy {
+    keys: IndexMap<FlowKey, ()>,
+    missed: u64,
+    limit: u32,
+    least: i64,
+}
+
+impl Model for Heavy {
+    ghost use Rattle.std.specs.Prelude.{ℕ, ◌≤◌, ◌+◌, length};
+    ghost use Rattle.indexmap.specs.IndexMap.{keys as keys_of_map, spare};
+    ghost use Rattle.heavy_keys.specs.Noted.{HeavyTable};
+
+    ghost Value = { HeavyTable };
+
+    ghost view = { λ h. record { keys = keys_of_map h.keys; missed = h.missed; limit = h.limit; least = h.least } };
+
+    ghost invariant = { λ h. (length (keys_of_map h.keys) ≤ h.limit) × (h.limit ≤ length (keys_of_map h.keys) + spare h.keys) };
+}
+
+impl Heavy {
+    /// A table with room for `limit` keys, 1 to 1,024, whose estimates are at least `least`.
+    pub fn new(alloc: Global, limit: u32, least: i64) -> Result<Heavy, NoMemory>
+        requires { (1 ≤ limit) × (limit ≤ 1024) }
+        ensures { IfOk result (λ table. table ≡ fresh_table limit least) }
+    {
+        match IndexMap::with_capacity(alloc, limit as usize) {
+            Ok(keys) => Ok(Heavy {
+                keys,
+                missed: 0,
+                limit,
+                least,
+            }),
+            Err(_) => Err(NoMemory),
+        }
+    }
+
+    /// Notes a key with its estimate. It takes no memory.
+    pub fn note(&mut self, key: FlowKey, estimate: i64)
+        ensures { self.new ≡ noted self.old key estimate }
+    {
+        if self.is_due(&key, estimate) {
+            if self.keys.len() < self.limit as usize {
+                add_last(&mut self.keys, key);
+            } else {
+                self.missed = self.missed.saturating_add(1);
+            }
+        }
+    }
+
+    // Whether a key with this estimate is heavy and isn't there yet.
+    fn is_due(&self, key: &FlowKey, estimate: i64) -> bool
+        ensures { result ≡ is_due self.now key.now estimate }
+    {
+        self.least <= estimate && !self.keys.contains_key(key)
+    }
+
+    pub fn len(&self) -> u32
+        ensures { result ≡ length self.now.keys }
+    {
+        let _limit = self.limit;
+        self.keys.len() as u32
+    }
+
+    pub fn entry(&self, place: u32) -> FlowKey
+        requires { place < length self.now.keys }
+        ensures { slice_get self.now.keys place ≡ Some result }
+    {
+        match self.keys.get_index(place as usize) {
+            Some((key, _)) => *key,
+            None => unreachable!(),
+        }
+    }
+
+    /// How often a key whose estimate reached `least` found no room.
+    pub fn missed(&self) -> u64
+        ensures { result ≡ self.now.missed }
+    {
+        self.missed
+    }
+
+    /// Makes a fresh table the same as the other. It takes no memory.
+    pub fn copy_from(&mut self, other: &Heavy)
+        requires { self.old ≡ fresh_table other.now.limit other.now.least }
+        ensures { self.new ≡ other.now }
+    {
+        copy_keys(&mut self.keys, &other.keys);
+        self.missed = other.missed;
+    }
+}
+
+// Adds a key that isn't there. There is room, so this takes no memory.
+fn add_last(keys: &mut IndexMap<FlowKey, ()>, key: FlowKey)
+    requires room { 0 < spare keys.old }
+    requires absent { is_among (keys_of_map keys.old) key ≡ false }
+    ensures keys { keys_of_map keys.new ≡ keys_of_map keys.old ++ key ∷ [] }
+    ensures spare { spare keys.old ≤ spare keys.new + 1 }
+{
+    let _ = keys.insert(key, ());
+}
+
+// Adds the keys of the other map, in order. There is room, so this takes no memory.
+fn copy_keys(keys: &mut IndexMap<FlowKey, ()>, other: &IndexMap<FlowKey, ()>)
+    requires none { keys_of_map keys.old ≡ [] }
+    requires room { length (keys_of_map other.now) ≤ spare keys.old }
+    ensures keys { keys_of_map keys.new ≡ keys_of_map other.now }
+    ensures spare { spare keys.old ≤ spare keys.new + length (keys_of_map other.now) }
+{
+    for place in 0..other.len() {
+        match other.get_index(place) {
+            Some((key, _)) => add_last(keys, *key),
+            None => unreachable!(),
+        }
+    }
+}
+
+#[cfg(test)]
+mod tests {
+    use super::*;
+    use std::test::Fail;
+
+    const LOW: FlowKey = FlowKey::V4 {
+        src: 1,
+        dst: 2,
+        sport: 3,
+        dport: 4,
+        proto: 6,
+    };
+
+    const HIGH: FlowKey = FlowKey::V6 {
+        src: [1; 16],
+        dst: [2; 16],
+        sport: 3,
+        dport: 4,
+        proto: 17,
+    };
+
+    // A type that can be moved to, and shared with, other threads.
+    fn shared<T: Send + Sync>(_table: &T) {}
+
+    #[test]
+    fn a_full_table_counts_what_it_missed(rt: HostRuntime) -> Result<(), Fail> {
+        let mut table = Heavy::new(rt.alloc(), 1, 2)?;
+        for (key, estimate) in [(LOW, 1), (LOW, 2), (HIGH, 5), (LOW, 3), (HIGH, 6)] {
+            table.note(key, estimate);
+        }
+        assert_eq!(rt; table.len(), 1);
+        assert_eq!(rt; table.entry(0), LOW);
+        assert_eq!(rt; table.missed(), 2);
+        shared(&table);
+        Ok(())
+    }
+
+    #[test]
+    fn a_copy_has_the_same_keys(rt: HostRuntime) -> Result<(), Fail> {
+        let mut table = Heavy::new(rt.alloc(), 2, 1)?;
+        table.note(HIGH, 1);
+        table.note(LOW, 1);
+        let mut copy = Heavy::new(rt.alloc(), 2, 1)?;
+        copy.copy_from(&table);
+        assert_eq!(rt; copy.len(), 2);
+        assert_eq!(rt; copy.entry(1), LOW);
+        Ok(())
+    }
+}

@@ -1,0 +1,14 @@
+pub mod Share
+pub mod Updates
+pub mod Whole
+pub mod Told
+pub mod Residue
+pub mod Pushes
+pub mod Front
+pub mod Shown
+pub mod LiveHeavy
+pub mod LagRun
+pub mod Answers
+pub mod Journal
+pub mod Rounds
+pub mod LawfulJournal

@@ -1,0 +1,3 @@
+pub mod LaneHistory
+pub mod Rule
+pub mod Views

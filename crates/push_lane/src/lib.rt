@@ -1,0 +1,12 @@
+//! One bounded queue from a worker to the aggregator, whose passes know what was sent through it
+//! and what was taken.
+#![tactic(auto)]
+
+mod lane;
+mod passes;
+mod rule;
+#[cfg(test)]
+mod tests;
+
+pub use lane::Lane;
+pub use passes::{BothPass, InPass, OutPass};
