@@ -4,25 +4,13 @@ use Rattle.std.specs.Fmt.{signed_decimal}
 use Rattle.std.specs.List.{flat_map, enumerate_from}
 use Rattle.packet_key.specs.KeyText.{text_of}
 use Rattle.hash_rows.specs.declared.shape.Flow.{Flow}
-use Rattle.hash_rows.specs.OptionTexts.{sketch_text, amount_text}
+use Rattle.octo_text.specs.Lines.{words_line, count_line, sketch_words}
 use Rattle.octo_text.specs.declared.report.Report.{Report}
 use Rattle.hash_rows.specs.declared.shape.Tallies.{Tallies}
 
--- some words
-unfoldable pub words_line : List ℕ → List ℕ
-words_line words = words ++ codes "\n"
-
--- a name, a space and a number
-unfoldable pub count_line : List ℕ → ℕ → List ℕ
-count_line name number = name ++ codes " " ++ decimal number ++ codes "\n"
-
 -- the sketch, its shape, and what a packet adds to it
 unfoldable pub sketch_line : Report → List ℕ
-sketch_line r =
-    codes "sketch " ++ sketch_text r.sketch
-    ++ codes " rows " ++ decimal r.shape.rows
-    ++ codes " columns " ++ decimal r.shape.columns
-    ++ codes " amount " ++ amount_text r.amount ++ codes "\n"
+sketch_line r = sketch_words r.sketch r.shape r.amount ++ codes "\n"
 
 -- how many records have no key, by what is wrong with them
 unfoldable pub skipped_line : Tallies → List ℕ

@@ -1,7 +1,12 @@
 //! The texts of the report and of the journal.
 #![tactic(auto)]
 
+mod choices;
+mod journal;
 mod line;
+mod lines;
 mod report;
+mod runs;
 
+pub use journal::Journal;
 pub use report::{Report, write_report};

@@ -1,11 +1,12 @@
 ghost use Rattle.std.specs.Prelude.{◌≡◌, ◌+◌, ◌≤◌, ◌++◌, ℕ, length, codes};
 ghost use Rattle.flow_base.specs.Causes.{HasCause};
 ghost use Rattle.flow_base.specs.Writing.{Writes};
-ghost use Rattle.hash_rows.specs.OptionTexts.{sketch_text, amount_text};
-ghost use Rattle.octo_text.specs.ReportText.{count_line, sketch_line, skipped_line, row_line, estimate_line, words_line, capture_lines, table_lines, flow_lines, distinct_line, estimate_lines, report_text};
+ghost use Rattle.octo_text.specs.Lines.{words_line, count_line};
+ghost use Rattle.octo_text.specs.ReportText.{sketch_line, skipped_line, row_line, estimate_line, capture_lines, table_lines, flow_lines, distinct_line, estimate_lines, report_text};
 ghost use Rattle.std.specs.List.{flat_map, enumerate_from};
 
 use crate::line::Line;
+use crate::lines::{put_sketch, write_count, write_words};
 use flow_base::{Failed, Sink};
 use hash_rows::{Amount, Counts, Flow, Flows, Shape, Sketch, Tallies};
 
@@ -36,63 +37,13 @@ pub struct Report {
     pub flows: Flows,
 }
 
-fn sketch_word(sketch: Sketch) -> &'static [u8]
-    ensures text { result.now ≡ sketch_text sketch }
-    ensures room { length result.now ≤ 20 }
-{
-    match sketch {
-        Sketch::CountMin => b"count-min",
-        Sketch::CountSketch => b"count-sketch",
-        Sketch::LogLog => b"loglog",
-    }
-}
-
-fn amount_word(amount: Amount) -> &'static [u8]
-    ensures text { result.now ≡ amount_text amount }
-    ensures room { length result.now ≤ 20 }
-{
-    match amount {
-        Amount::Packets => b"packets",
-        Amount::Bytes => b"bytes",
-    }
-}
-
-#[tactic(auto, unfolding(crate::specs::ReportText::words_line))]
-fn write_words<T: Sink>(out: &mut T, words: &[u8]) -> Result<(), Failed>
-    requires { length words.now ≤ 20 }
-    ensures writes { Writes (T.holds out.old) (T.holds out.new) (words_line words.now) result }
-    ensures cause { HasCause (T.faults out.old) (T.faults out.new) result }
-{
-    let mut line = Line::new();
-    line.text(words);
-    line.send(out)
-}
-
-#[tactic(auto, unfolding(crate::specs::ReportText::count_line))]
-fn write_count<T: Sink>(out: &mut T, name: &[u8], number: u64) -> Result<(), Failed>
-    requires { length name.now ≤ 20 }
-    ensures writes { Writes (T.holds out.old) (T.holds out.new) (count_line name.now number) result }
-    ensures cause { HasCause (T.faults out.old) (T.faults out.new) result }
-{
-    let mut line = Line::new();
-    line.text(name);
-    line.text(b" ");
-    line.number(number);
-    line.send(out)
-}
-
 #[tactic(auto, unfolding(crate::specs::ReportText::sketch_line))]
 fn write_sketch<T: Sink>(out: &mut T, report: &Report) -> Result<(), Failed>
     ensures writes { Writes (T.holds out.old) (T.holds out.new) (sketch_line report.now) result }
     ensures cause { HasCause (T.faults out.old) (T.faults out.new) result }
 {
     let mut line = Line::new();
-    line.text(b"sketch ");
-    line.text(sketch_word(report.sketch));
-    line.named(b" rows ", u64::from(report.shape.rows));
-    line.named(b" columns ", u64::from(report.shape.columns));
-    line.text(b" amount ");
-    line.text(amount_word(report.amount));
+    put_sketch(&mut line, report.sketch, &report.shape, report.amount);
     line.send(out)
 }
 
