@@ -1,5 +1,5 @@
 -- What a journal tells.
-use Rattle.std.specs.Prelude.{◌≡◌, ℕ, List, length, map}
+use Rattle.std.specs.Prelude.{◌≡◌, ℕ, List, length, map, ◌≤◌}
 use Rattle.hash_rows.specs.declared.answer.Answer.{Answer}
 use Rattle.hash_rows.specs.declared.options.Options.{Options}
 use Rattle.hash_rows.specs.Marks.{marked}
@@ -26,3 +26,8 @@ content_of j = record {
 pub record Suits (o : Options) (a : Answer) : Type 0 where
   pub front : length a.front.items ≡ o.workers
   pub shown : length a.shown.items ≡ length (keys_of o)
+
+-- so few numbers that the answer's line is short
+pub record FitsLine (a : Answer) : Type 0 where
+  pub front : length a.front.items ≤ 16
+  pub shown : length a.shown.items ≤ 16
