@@ -4,12 +4,16 @@ ghost use Rattle.flow_base.specs.Causes.{HasCause};
 ghost use Rattle.flow_base.specs.Writing.{Writes};
 ghost use Rattle.hash_rows.specs.Lawful.{IsLawful};
 ghost use Rattle.hash_rows.specs.Marks.{marked};
+ghost use Rattle.push_history.specs.Journal.{with_journal};
+ghost use Rattle.octo_text.specs.Content.{content_of, Suits};
 ghost use Rattle.octo_text.specs.Lines.{words_line, count_line, key_line};
-ghost use Rattle.octo_text.specs.JournalText.{share_words, push_words, query_words, options_line, terms_lines};
+ghost use Rattle.octo_text.specs.JournalText.{share_words, push_words, query_words, options_line, terms_lines, live_lines, journal_text};
 
+use crate::answers::write_answers;
 use crate::choices::{full_word, mode_word, share_word};
 use crate::line::Line;
 use crate::lines::{put_sketch, write_count, write_keys, write_words};
+use crate::workers::write_workers;
 use flow_base::{Failed, Sink};
 use hash_rows::{Answers, BitRows, Counts, Keys, Options};
 
@@ -88,9 +92,36 @@ fn write_options<T: Sink>(out: &mut T, options: &Options) -> Result<(), Failed>
 }
 
 fn write_terms<T: Sink>(out: &mut T, options: &Options) -> Result<(), Failed>
-    ensures writes { Writes (T.holds out.old) (T.holds out.new) (terms_lines options.now) result }
+    ensures writes { Writes (T.holds out.old) (T.holds out.new) (terms_lines (with_journal options.now)) result }
     ensures cause { HasCause (T.faults out.old) (T.faults out.new) result }
 {
     write_options(out, options)?;
     write_keys(out, b"watched", options.watch.as_slice())
+}
+
+fn write_live<T: Sink>(out: &mut T, journal: &Journal) -> Result<(), Failed>
+    ensures writes { Writes (T.holds out.old) (T.holds out.new) (live_lines (content_of journal.now)) result }
+    ensures cause { HasCause (T.faults out.old) (T.faults out.new) result }
+{
+    write_keys(out, b"live", journal.live.as_slice())?;
+    write_count(out, b"missed", journal.missed)
+}
+
+/// Writes the journal's text, each line as one piece. It takes no memory.
+///
+/// After an error the sink holds a proper front of the text.
+pub fn write_journal<T: Sink>(out: &mut T, journal: &Journal) -> Result<(), Failed>
+    requires options { IsLawful journal.now.options }
+    requires refused { length journal.now.refused.items ≡ journal.now.options.workers }
+    requires pushes { length journal.now.pushes.items ≡ journal.now.options.workers }
+    requires answers { All (Suits journal.now.options) journal.now.answers.items }
+    ensures writes { Writes (T.holds out.old) (T.holds out.new) (journal_text (content_of journal.now)) result }
+    ensures cause { HasCause (T.faults out.old) (T.faults out.new) result }
+{
+    write_words(out, b"octosketch journal 1")?;
+    write_terms(out, &journal.options)?;
+    write_workers(out, journal.pushes.as_slice(), journal.refused.as_slice())?;
+    write_answers(out, journal.answers.as_slice())?;
+    write_live(out, journal)?;
+    write_words(out, b"end")
 }
