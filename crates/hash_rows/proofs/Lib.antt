@@ -1,3 +1,4 @@
+pub mod HeldRanks
 pub mod HeldSums
 pub mod RankLaws
 pub mod RowLists

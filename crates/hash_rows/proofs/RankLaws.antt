@@ -1,6 +1,6 @@
 -- The laws of LogLog: the greater of two ranks.
-use Rattle.std.proofs.Common.{◌≡◌, ◌<◌, ◌≤◌, ◌^◌, ◌+◌, ◌*◌, ◌==◌, ℕ, ℤ, pos, negsuc, ◌-ℤ◌, ◌≤ℤ◌, Bool, true, false, Option, Some, None, if◌then◌else◌, List, refl, sym, ap, subst, ◌∙◌, arith}
-use Rattle.std.specs.Prelude.{unsigned_abs, nat_le, int_le, nat_lt, ◌-◌}
+use Rattle.std.proofs.Common.{◌≡◌, ◌<◌, ◌≤◌, ◌^◌, ◌+◌, ◌*◌, ℕ, ℤ, pos, negsuc, ◌-ℤ◌, ◌≤ℤ◌, Bool, true, false, Option, Some, None, if◌then◌else◌, List, refl, sym, ap, subst, ◌∙◌, arith}
+use Rattle.std.specs.Prelude.{unsigned_abs, nat_le, int_le, nat_lt, ◌-◌, ◌/◌, ◌%◌}
 use Rattle.hash_rows.specs.declared.shape.Shape.{Shape}
 use Rattle.hash_rows.specs.declared.shape.Packet.{Packet}
 use Rattle.std.proofs.lemmas.Int.{ints}
@@ -89,6 +89,20 @@ pub rank_small_is : (told whole : ℕ) (b : ℤ) → told ≤ whole → rank_sma
 rank_small_is told whole b behind h =
     let P : ℕ → Type 0 = λ far. (if nat_le far 2 then Some (pos (told + 33 * far)) else None) ≡ Some b in
     byte_of told (whole - told) b (subst P (rank_distance_is told whole behind) h)
+
+-- two numbers up to 32 are ranks, the lesser behind the other
+pub ranks_are : (told whole : ℕ) → whole ≤ 32 → told ≤ whole
+    → (is_rank (pos told) ≡ true) × (is_rank (pos whole) ≡ true) × (int_le (pos told) (pos whole) ≡ true)
+ranks_are told whole most behind = (rank_from told (omega arith), rank_from whole most, grind arith)
+
+-- the byte gives both ranks back
+pub ranks_back : (told whole : ℕ) (b : ℤ) → told ≤ 32 → told ≤ whole → rank_small (pos told) (pos whole) ≡ Some b
+    → (unsigned_abs b % 33 ≡ told) × (unsigned_abs b % 33 + unsigned_abs b / 33 ≡ whole)
+ranks_back told whole b most behind h =
+    let byte = rank_small_is told whole b behind h in
+    let far : whole - told ≤ 2 = byte.0 in
+    let size : unsigned_abs b ≡ told + 33 * (whole - told) = ap unsigned_abs byte.1 in
+    (omega arith, omega arith)
 
 small_within : (told whole b : ℤ) → is_rank told ≡ true → is_rank whole ≡ true → int_le told whole ≡ true
     → rank_small told whole ≡ Some b → (negsuc 126 ≤ℤ b) × (b ≤ℤ pos 127)

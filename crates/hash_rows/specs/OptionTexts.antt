@@ -11,23 +11,23 @@ use Rattle.hash_rows.specs.declared.options.Share.TheVariants.{Turn, Key}
 use Rattle.hash_rows.specs.declared.options.Sketch.{Sketch}
 use Rattle.hash_rows.specs.declared.options.Sketch.TheVariants.{CountMin, CountSketch, LogLog}
 
-abbrev pub sketch_text : Sketch → List ℕ
+unfoldable pub sketch_text : Sketch → List ℕ
 sketch_text CountMin = codes "count-min"
 sketch_text CountSketch = codes "count-sketch"
 sketch_text LogLog = codes "loglog"
 
-abbrev pub amount_text : Amount → List ℕ
+unfoldable pub amount_text : Amount → List ℕ
 amount_text Packets = codes "packets"
 amount_text Bytes = codes "bytes"
 
-abbrev pub share_text : Share → List ℕ
+unfoldable pub share_text : Share → List ℕ
 share_text Turn = codes "turn"
 share_text Key = codes "key"
 
-abbrev pub full_text : Full → List ℕ
+unfoldable pub full_text : Full → List ℕ
 full_text Leave = codes "leave"
 full_text Wait = codes "wait"
 
-abbrev pub mode_text : Mode → List ℕ
+unfoldable pub mode_text : Mode → List ℕ
 mode_text Rounds = codes "rounds"
 mode_text Threads = codes "threads"

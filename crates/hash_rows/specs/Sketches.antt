@@ -1,8 +1,9 @@
 -- The three sketches: what a cell joins, what a packet adds to it, and what the cells say of a key.
 -- Count-Min: Cormode, Muthukrishnan (2005). Count Sketch: Charikar, Chen, Farach-Colton (2002). LogLog: Durand, Flajolet (2003).
-use Rattle.std.specs.Prelude.{ℕ, ◌+◌, ◌-◌, ◌*◌, ◌/◌, ◌^◌, ◌==◌, ◌&&◌, ℤ, pos, negsuc, ◌-ℤ◌, Bool, List, [], ◌∷◌, length, map, fold, sum_by, count_by, min, nat_lt, nat_le, if◌then◌else◌, slice_index_or, unsigned_abs, Option, Some, None, int_lt, int_le}
+use Rattle.std.specs.Prelude.{ℕ, ◌+◌, ◌-◌, ◌*◌, ◌/◌, ◌^◌, ◌==◌, ◌&&◌, ℤ, pos, negsuc, ◌-ℤ◌, Bool, List, [], ◌∷◌, length, map, fold, sum, sum_by, count_by, min, nat_lt, nat_le, if◌then◌else◌, slice_index_or, unsigned_abs, Option, Some, None, int_lt, int_le}
 use Rattle.std.specs.Int.{int_max, int_min, int_wrapping_add, int_wrapping_sub, int_wrapping_neg, trailing_zeros, w64}
 use Rattle.std.specs.List.{range_with_len}
+use Rattle.std.specs.Ordering.{int_eq}
 use Rattle.packet_key.specs.declared.key.FlowKey.{FlowKey}
 use Rattle.hash_rows.specs.declared.shape.Shape.{Shape}
 use Rattle.hash_rows.specs.declared.shape.Packet.{Packet}
@@ -111,7 +112,7 @@ register_sum cells = sum_by (λ rank. 2 ^ (32 - unsigned_abs rank)) cells
 
 -- V: how many registers are 0
 unfoldable pub zero_registers : List ℤ → ℕ
-zero_registers cells = count_by (λ rank. unsigned_abs rank == 0) cells
+zero_registers cells = count_by (λ rank. int_eq rank (pos 0)) cells
 
 -- E = (7213 * m ^ 3 * 2 ^ 32) div ((10000 * m + 10790) * Z)
 unfoldable pub raw_estimate : ℕ → ℕ → ℕ
@@ -119,7 +120,7 @@ raw_estimate m z = (7213 * (m * m * m) * 4294967296) / ((10000 * m + 10790) * z)
 
 -- (the sum over i from V + 1 to m of (m * 65536 div i)) div 65536
 unfoldable pub linear_count : ℕ → ℕ → ℕ
-linear_count m v = sum_by (λ i. m * 65536 / i) (range_with_len (v + 1) (m - v)) / 65536
+linear_count m v = sum (map (λ i. m * 65536 / i) (range_with_len (v + 1) (m - v))) / 65536
 
 -- the whole-number estimate of how many keys were counted
 unfoldable pub distinct_of : ℕ → List ℤ → ℕ

@@ -5,7 +5,7 @@ use Rattle.std.specs.Map.{keys_of, lookup}
 use Rattle.std.proofs.lemmas.Map.Made.{is_some-lookup}
 use Rattle.packet_key.specs.declared.key.FlowKey.{FlowKey}
 use Rattle.packet_key.specs.contracts.key.FlowKeyEq.TheImpl.Laws.{laws-law}
-use Rattle.heavy_keys.specs.Noted.{same_key, is_among}
+use Rattle.push_history.specs.LiveHeavy.{same_key, is_among}
 
 listed_alike : (key : FlowKey) (keys : List FlowKey) → list_any (same_key key) keys ≡ is_among keys key
 listed_alike key [] = refl

@@ -1,8 +1,7 @@
 -- What a table of heavy keys becomes as keys are noted in it.
 use Rattle.std.specs.Prelude.{ℕ, ◌+◌, ◌&&◌, ℤ, Bool, List, [], ◌∷◌, ◌++◌, length, min, nat_lt, int_le, not, if◌then◌else◌}
-use Rattle.std.specs.List.{list_any}
 use Rattle.packet_key.specs.declared.key.FlowKey.{FlowKey}
-use Rattle.packet_key.specs.contracts.key.FlowKeyPartialEq.TheImpl as equality
+use Rattle.push_history.specs.LiveHeavy.{is_among}
 
 -- a table of heavy keys: the keys in the order in which they came, how often a key found no room, how many keys have
 -- room, and the least estimate of a heavy key
@@ -11,14 +10,6 @@ pub record HeavyTable : Type 0 where
   pub missed : ℕ
   pub limit : ℕ
   pub least : ℤ
-
--- what `==` answers of two keys
-abbrev pub same_key : FlowKey → FlowKey → Bool
-same_key = (equality.ghosts).eq
-
--- whether the key is one of these
-abbrev pub is_among : List FlowKey → FlowKey → Bool
-is_among keys key = list_any (λ k. same_key k key) keys
 
 -- one more, where a number of 64 bits has it
 abbrev pub one_more : ℕ → ℕ
@@ -29,14 +20,14 @@ abbrev pub is_due : HeavyTable → FlowKey → ℤ → Bool
 is_due table key estimate = int_le table.least estimate && not (is_among table.keys key)
 
 -- the table with the key added, or counted as missed where no room is left
-abbrev pub with_key : HeavyTable → FlowKey → HeavyTable
-with_key table key =
+abbrev pub kept_or_missed : HeavyTable → FlowKey → HeavyTable
+kept_or_missed table key =
     if nat_lt (length table.keys) table.limit then record table { keys = table.keys ++ key ∷ [] }
     else record table { missed = one_more table.missed }
 
 -- the table after the key was noted with its estimate
 abbrev pub noted : HeavyTable → FlowKey → ℤ → HeavyTable
-noted table key estimate = if is_due table key estimate then with_key table key else table
+noted table key estimate = if is_due table key estimate then kept_or_missed table key else table
 
 -- a table in which no key was noted
 abbrev pub fresh_table : ℕ → ℤ → HeavyTable

@@ -1,6 +1,9 @@
-ghost use Rattle.std.specs.Prelude.{◌≡◌, ◌<◌, ◌≤◌, ◌+◌, ◌++◌, ◌∷◌, [], false, length, slice_get, Some, IfOk};
+ghost use Rattle.std.specs.Prelude.{◌≡◌, ◌<◌, ◌≤◌, ◌+◌, ◌++◌, ◌∷◌, [], false, List, length, slice_get, Some, IfOk};
 ghost use Rattle.indexmap.specs.IndexMap.{keys as keys_of_map, spare};
-ghost use Rattle.heavy_keys.specs.Noted.{fresh_table, is_among, is_due, noted};
+ghost use Rattle.heavy_keys.specs.Noted.{fresh_table, is_due, noted};
+ghost use Rattle.heavy_keys.specs.Live.{HoldsLive};
+ghost use Rattle.hash_rows.specs.declared.shape.Flow.{Flow};
+ghost use Rattle.push_history.specs.LiveHeavy.{is_among};
 
 use flow_base::NoMemory;
 use indexmap::IndexMap;
@@ -34,7 +37,8 @@ impl Heavy {
     /// A table with room for `limit` keys, 1 to 1,024, whose estimates are at least `least`.
     pub fn new(alloc: Global, limit: u32, least: i64) -> Result<Heavy, NoMemory>
         requires { (1 ≤ limit) × (limit ≤ 1024) }
-        ensures { IfOk result (λ table. table ≡ fresh_table limit least) }
+        ensures fresh { IfOk result (λ table. table ≡ fresh_table limit least) }
+        ensures live { IfOk result (λ table. HoldsLive table []) }
     {
         match IndexMap::with_capacity(alloc, limit as usize) {
             Ok(keys) => Ok(Heavy {
@@ -49,7 +53,8 @@ impl Heavy {
 
     /// Notes a key with its estimate. It takes no memory.
     pub fn note(&mut self, key: FlowKey, estimate: i64)
-        ensures { self.new ≡ noted self.old key estimate }
+        ensures noted { self.new ≡ noted self.old key estimate }
+        ensures live { (notes : List Flow) → HoldsLive self.old notes → HoldsLive self.new (notes ++ record { key = key; estimate = estimate } ∷ []) }
     {
         if self.is_due(&key, estimate) {
             if self.keys.len() < self.limit as usize {

@@ -1,17 +1,20 @@
 -- Which bytes stand in the text of a key.
-use Rattle.std.proofs.Common.{◌≡◌, ◌∙◌, ℕ, zero, suc, ◌/◌, ◌%◌, ◌^◌, ◌<◌, true, false, true≢false, List, [], ◌∷◌, ◌++◌, length, get_or, flat_map, decimal, All, length-append, refl, sym, ap, arith}
+use Rattle.std.proofs.Common.{◌≡◌, ◌∙◌, ℕ, zero, suc, ◌/◌, ◌%◌, ◌^◌, ◌<◌, true, false, true≢false, List, [], ◌∷◌, ◌++◌, length, get_or, flat_map, decimal, All, length-append, inl, inr, refl, sym, ap, arith}
 use Rattle.std.proofs.lemmas.Bool.Decides.{nat_tests}
 use Rattle.std.proofs.lemmas.List.Elements.{All-nil, All-cons, All-append, All-drop, All-from_get_or, All-weaker}
 use Rattle.std.proofs.lemmas.Fmt.{decimal_is_IsNumeral}
 use Rattle.std.proofs.lemmas.Str.Parse.{digit_at}
 use Rattle.std.specs.Int.{IsInRange, to_be_bytes, w32}
 use Rattle.std.specs.Char.{digit_char}
+use Rattle.std.specs.Str.{IsAscii}
+use Rattle.std.proofs.lemmas.Bool.{cases_lt}
+use Rattle.std.proofs.lemmas.List.{get_or_past}
 use Rattle.std.specs.Net.Addr.{segments_of}
 use Rattle.std.specs.Net.Text.{ipv4_text, hex, groups_text, leading_zero_digits}
 use Rattle.packet_key.specs.declared.key.FlowKey.{FlowKey}
 use Rattle.packet_key.specs.declared.key.FlowKey.TheVariants.{V4, V6}
 use Rattle.packet_key.specs.Alphabet.{is_end_byte, is_key_byte, Lacks, IsOf}
-use Rattle.packet_key.specs.Ends.{source_text, destination_text, protocol_of}
+use Rattle.packet_key.specs.Ends.{protocol_of}
 use Rattle.packet_key.specs.KeyText.{IsAddress, IsKey, v4_end, v6_end, flow_text, text_of}
 
 abbrev EndByte : ℕ → Type 0
@@ -93,6 +96,16 @@ Made-v6_end address port is fits =
     let groups = Made-groups_text _ (groups_fit address is.bytes) in
     and _ _ (and _ _ (and (91 ∷ []) _ (one 91 refl) groups) (cons (one 93 refl) (one 58 refl))) (Made-decimal port fits)
 
+-- the text of a key's source
+abbrev pub source_text : FlowKey → List ℕ
+source_text (V4 src dst sport dport proto) = v4_end src sport
+source_text (V6 src dst sport dport proto) = v6_end src sport
+
+-- the text of its destination
+abbrev pub destination_text : FlowKey → List ℕ
+destination_text (V4 src dst sport dport proto) = v4_end dst dport
+destination_text (V6 src dst sport dport proto) = v6_end dst dport
+
 pub Made-source : (k : FlowKey) → IsKey k → Made (source_text k)
 Made-source (V4 src dst sport dport proto) is = Made-v4_end src sport is.2
 Made-source (V6 src dst sport dport proto) is = Made-v6_end src sport is.0 is.2
@@ -114,6 +127,9 @@ unfolding text_of
 text_parts (V4 src dst sport dport proto) = refl
 text_parts (V6 src dst sport dport proto) = refl
 
+below : (b : ℕ) → is_key_byte b ≡ true → b < 128
+below b is = grind (arith, nat_tests)
+
 abbrev KeyByte : ℕ → Type 0
 KeyByte b = is_key_byte b ≡ true
 
@@ -133,6 +149,14 @@ IsOf-text_of k is =
 -- a byte of another sort, as a comma, a space or a line feed, stands in no key's text
 pub Lacks-text_of : (byte : ℕ) → is_key_byte byte ≡ false → (k : FlowKey) → IsKey k → Lacks byte (text_of k)
 Lacks-text_of byte other k is i d lt same = true≢false (sym (IsOf-text_of k is i d lt) ∙ ap is_key_byte same ∙ other)
+
+-- a key's text is ASCII
+pub IsAscii-text_of : (k : FlowKey) → IsKey k → IsAscii (text_of k)
+IsAscii-text_of k is i =
+    elim (cases_lt i (length (text_of k))) [
+      | inl inside ↦ below _ (IsOf-text_of k is i 0 inside)
+      | inr past ↦ rw (get_or_past (text_of k) i 0 past) (omega arith)
+    ]
 
 -- a key's text has bytes
 pub length-text_of : (k : FlowKey) → 0 < length (text_of k)

@@ -1,5 +1,5 @@
 -- Two keys of one text are one key.
-use Rattle.std.proofs.Common.{◌≡◌, ◌∙◌, ℕ, ◌+◌, ◌<◌, ◌^◌, List, [], ◌∷◌, ◌++◌, decimal, refl, sym, ap, subst, arith}
+use Rattle.std.proofs.Common.{◌≡◌, ◌∙◌, ℕ, List, [], ◌∷◌, ◌++◌, refl, sym, subst, arith}
 use Rattle.std.proofs.lemmas.Fmt.{decimal_injective}
 use Rattle.std.proofs.lemmas.List.Elements.{All-head, All-tail}
 use Rattle.std.proofs.lemmas.Nat.{from_be_bytes-to_be_bytes_4}
@@ -9,9 +9,9 @@ use Rattle.std.specs.Net.Grammar.{IsSocketText}
 use Rattle.packet_key.specs.declared.key.FlowKey.{FlowKey}
 use Rattle.packet_key.specs.declared.key.FlowKey.TheVariants.{V4, V6}
 use Rattle.packet_key.specs.Alphabet.{Lacks}
-use Rattle.packet_key.specs.Ends.{source_of, source_text, destination_of, destination_text, protocol_of, v4_address, v6_address}
+use Rattle.packet_key.specs.Ends.{source_of, destination_of, protocol_of, v4_address, v6_address}
 use Rattle.packet_key.specs.KeyText.{IsKey, text_of}
-use Rattle.packet_key.proofs.Bytes.{Made-source, Made-destination, lacks, text_parts, protocol_fits}
+use Rattle.packet_key.proofs.Bytes.{source_text, destination_text, Made-source, Made-destination, lacks, text_parts, protocol_fits}
 use Rattle.packet_key.proofs.Sockets.{spells_source, spells_destination, between_v4, between_v6, octets_of-segments_of}
 use Rattle.packet_key.proofs.Splits.{flow_cut}
 

@@ -19,9 +19,9 @@ use Rattle.std.specs.declared.net.socket_addr.SocketAddr.{SocketAddr}
 use Rattle.std.specs.declared.net.socket_addr.SocketAddr.TheVariants as Socket
 use Rattle.packet_key.specs.declared.key.FlowKey.{FlowKey}
 use Rattle.packet_key.specs.declared.key.FlowKey.TheVariants.{V4, V6}
-use Rattle.packet_key.specs.Ends.{v4_address, v6_address, source_of, source_text, destination_of, destination_text, protocol_of}
+use Rattle.packet_key.specs.Ends.{v4_address, v6_address, source_of, destination_of, protocol_of}
 use Rattle.packet_key.specs.KeyText.{IsAddress, IsKey, v4_end, v6_end}
-use Rattle.packet_key.proofs.Bytes.{AreGroups, groups_fit, octets_fit}
+use Rattle.packet_key.proofs.Bytes.{source_text, destination_text, AreGroups, groups_fit, octets_fit}
 
 module _ {E : Type 0} where
   pub parsed_socket : (text : List ℕ) (a : SocketAddr) (r : Result SocketAddr E) → Parses IsSocketText text r → IsSocketText text a → r ≡ Ok a

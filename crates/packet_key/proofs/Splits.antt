@@ -4,9 +4,9 @@ use Rattle.std.proofs.lemmas.Str.Pattern.{IsSplitOnceResult, split_after}
 use Rattle.std.specs.Borrow.{Bor}
 use Rattle.std.specs.Option.{MatchOption}
 use Rattle.packet_key.specs.declared.key.FlowKey.{FlowKey}
-use Rattle.packet_key.specs.Ends.{source_text, destination_text, protocol_of}
+use Rattle.packet_key.specs.Ends.{protocol_of}
 use Rattle.packet_key.specs.KeyText.{IsKey, flow_text, text_of}
-use Rattle.packet_key.proofs.Bytes.{Made-source, Made-destination, lacks, text_parts}
+use Rattle.packet_key.proofs.Bytes.{source_text, destination_text, Made-source, Made-destination, lacks, text_parts}
 
 pub flow_cut : (source destination : List ℕ) (proto : ℕ)
     → flow_text source destination proto ≡ source ++ (62 ∷ (destination ++ (47 ∷ decimal proto)))

@@ -1,4 +1,4 @@
--- The parts of a key, as the reading of a text meets them.
+-- The ends of a key as std's socket addresses, which the reading of a text meets.
 use Rattle.std.specs.Prelude.{ℕ, List}
 use Rattle.std.specs.Int.{to_be_bytes, w32}
 use Rattle.std.specs.declared.net.socket_addr.SocketAddrV4.{SocketAddrV4}
@@ -8,7 +8,6 @@ use Rattle.std.specs.declared.net.socket_addr.SocketAddr.TheVariants as Socket
 use Rattle.std.specs.Net.Addr.{segments_of}
 use Rattle.packet_key.specs.declared.key.FlowKey.{FlowKey}
 use Rattle.packet_key.specs.declared.key.FlowKey.TheVariants.{V4, V6}
-use Rattle.packet_key.specs.KeyText.{v4_end, v6_end}
 
 -- an IPv4 address with a port
 abbrev pub v4_address : ℕ → ℕ → SocketAddrV4
@@ -18,25 +17,15 @@ v4_address address port = record { ip = record { octets = to_be_bytes w32 addres
 abbrev pub v6_address : List ℕ → ℕ → SocketAddrV6
 v6_address address port = record { ip = record { segments = segments_of address }; port = port; flowinfo = 0; scope_id = 0 }
 
--- the source of a key with its port, and the text of both
+-- the source of a key with its port
 abbrev pub source_of : FlowKey → SocketAddr
 source_of (V4 src dst sport dport proto) = Socket.V4 (v4_address src sport)
 source_of (V6 src dst sport dport proto) = Socket.V6 (v6_address src sport)
-
--- its text
-abbrev pub source_text : FlowKey → List ℕ
-source_text (V4 src dst sport dport proto) = v4_end src sport
-source_text (V6 src dst sport dport proto) = v6_end src sport
 
 -- the destination of a key with its port
 abbrev pub destination_of : FlowKey → SocketAddr
 destination_of (V4 src dst sport dport proto) = Socket.V4 (v4_address dst dport)
 destination_of (V6 src dst sport dport proto) = Socket.V6 (v6_address dst dport)
-
--- its text
-abbrev pub destination_text : FlowKey → List ℕ
-destination_text (V4 src dst sport dport proto) = v4_end dst dport
-destination_text (V6 src dst sport dport proto) = v6_end dst dport
 
 -- the protocol of a key
 abbrev pub protocol_of : FlowKey → ℕ

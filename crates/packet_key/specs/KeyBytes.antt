@@ -1,4 +1,4 @@
--- The bytes of a flow key, each number with its most significant byte first.
+-- The bytes of a flow key, each number in network byte order: the most significant byte first (RFC 1700).
 use Rattle.std.specs.Prelude.{ℕ, List, [], ◌∷◌, ◌++◌}
 use Rattle.std.specs.Int.{to_be_bytes, w16, w32}
 use Rattle.packet_key.specs.declared.key.FlowKey.{FlowKey}

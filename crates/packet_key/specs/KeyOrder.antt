@@ -1,4 +1,4 @@
--- The order of flow keys.
+-- The order of flow keys: that of their bytes, as `memcmp` compares them, within a family.
 use Rattle.std.specs.Ordering.{nat_cmp}
 use Rattle.std.specs.declared.cmp.Ordering.{Ordering}
 use Rattle.std.specs.Cmp.Lexicographic.{slice_cmp}

@@ -5,10 +5,15 @@ use crate::{FlowKey, Skip};
 
 // EtherTypes (IEEE 802 numbers) and protocols (IANA).
 const IPV4: u16 = 0x0800;
+
 const IPV6: u16 = 0x86DD;
+
 const VLAN_TAG: u16 = 0x8100;
+
 const SERVICE_TAG: u16 = 0x88A8;
+
 const TCP: u8 = 6;
+
 const UDP: u8 = 17;
 
 fn u16_at(frame: &[u8], at: usize) -> u16
@@ -40,14 +45,25 @@ fn carries_ports(protocol: u8) -> bool
     protocol == TCP || protocol == UDP
 }
 
+// The place behind the IPv4 header at `p`.
+#[tactic(auto, unfolding(crate::specs::Frame::payload_place))]
+fn payload_at(frame: &[u8], p: usize) -> usize
+    requires inside { p < length frame.now }
+    requires small { p < 100 }
+    ensures { result ≡ payload_place frame.now p }
+{
+    p + 4 * (frame[p] % 16) as usize
+}
+
 #[tactic(auto, unfolding(crate::specs::Frame::shows_ports, crate::specs::Frame::payload_place))]
 fn v4_shows_ports(frame: &[u8], p: usize) -> bool
     requires fixed { p + 20 ≤ length frame.now }
     requires small { p < 100 }
     ensures { result ≡ shows_ports frame.now p }
 {
-    let payload = p + 4 * (frame[p] % 16) as usize;
-    carries_ports(frame[p + 9]) && u16_at(frame, p + 6) % 8192 == 0 && frame.len() >= payload + 4
+    carries_ports(frame[p + 9])
+        && u16_at(frame, p + 6) % 8192 == 0
+        && frame.len() >= payload_at(frame, p) + 4
 }
 
 #[tactic(auto, unfolding(crate::specs::Frame::key_at, crate::specs::Frame::shows_ports, crate::specs::Frame::payload_place))]
@@ -56,7 +72,7 @@ fn v4_key(frame: &[u8], p: usize) -> FlowKey
     requires small { p < 100 }
     ensures { result ≡ key_at frame.now p }
 {
-    let payload = p + 4 * (frame[p] % 16) as usize;
+    let payload = payload_at(frame, p);
     let (sport, dport) = if v4_shows_ports(frame, p) {
         (u16_at(frame, payload), u16_at(frame, payload + 2))
     } else {
@@ -83,7 +99,7 @@ fn read_v4(frame: &[u8], p: usize) -> Result<FlowKey, Skip>
     if first / 16 != 4 || first % 16 < 5 {
         return Err(Skip::BadIp);
     }
-    if frame.len() < p + 4 * (first % 16) as usize {
+    if frame.len() < payload_at(frame, p) {
         return Err(Skip::ShortFrame);
     }
     Ok(v4_key(frame, p))

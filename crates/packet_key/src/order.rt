@@ -1,9 +1,8 @@
 ghost use Rattle.std.specs.Prelude.{◌≡◌};
 ghost use Rattle.packet_key.specs.KeyOrder.{order_of};
 
-use std::cmp::Ordering;
-
 use crate::{FlowKey, in_range};
+use std::cmp::Ordering;
 
 /// The order of two keys, which `cmp` is: each `V4` key is before each `V6` key, and within a family
 /// the order is that of the keys' bytes.

@@ -5,9 +5,8 @@ ghost use Rattle.packet_key.specs.declared.key.FlowKey.{FlowKey};
 ghost use Rattle.packet_key.specs.Ends.{source_of, destination_of, protocol_of};
 ghost use Rattle.packet_key.specs.KeyText.{IsKey, text_of};
 
-use std::net::SocketAddr;
-
 use crate::{FlowKey, in_range, key_text};
+use std::net::SocketAddr;
 
 #[tactic(auto, using(crate::proofs::Sockets::parsed_socket))]
 fn read_end(text: &str) -> Option<SocketAddr>

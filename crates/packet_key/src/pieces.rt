@@ -4,24 +4,23 @@ ghost use Rattle.std.specs.Net.Text.{hex};
 
 use itoa::Buffer;
 
-// Each function writes a piece at `at`, and answers the place behind it.
-
-/// Writes the bytes at the place, and answers the place behind them.
+/// Writes the piece at the place, and answers the place behind it.
 pub fn put(into: &mut [u8], at: usize, piece: &[u8]) -> usize
     requires { at + length piece.now ≤ length into.old }
     ensures end { result ≡ at + length piece.now }
-    ensures written { take result into.new ≡ take at into.old ++ piece.now }
+    ensures front { take result into.new ≡ take at into.old ++ piece.now }
 {
     let end = at + piece.len();
     into[at..end].copy_from_slice(piece);
     end
 }
 
+// In decimal, as the next one.
 #[tactic(auto, using(crate::proofs::Lengths::byte_is_short))]
 pub fn put_byte(into: &mut [u8], at: usize, byte: u8) -> usize
     requires { at + 3 ≤ length into.old }
     ensures most { result ≤ at + 3 }
-    ensures written { take result into.new ≡ take at into.old ++ decimal byte }
+    ensures front { take result into.new ≡ take at into.old ++ decimal byte }
 {
     let mut digits = Buffer::new();
     put(into, at, digits.format(byte).as_bytes())
@@ -31,7 +30,7 @@ pub fn put_byte(into: &mut [u8], at: usize, byte: u8) -> usize
 pub fn put_port(into: &mut [u8], at: usize, port: u16) -> usize
     requires { at + 5 ≤ length into.old }
     ensures most { result ≤ at + 5 }
-    ensures written { take result into.new ≡ take at into.old ++ decimal port }
+    ensures front { take result into.new ≡ take at into.old ++ decimal port }
 {
     let mut digits = Buffer::new();
     put(into, at, digits.format(port).as_bytes())
@@ -54,7 +53,7 @@ fn hex_digit(digit: u16) -> u8
 pub fn put_group(into: &mut [u8], at: usize, group: u16) -> usize
     requires { at + 4 ≤ length into.old }
     ensures most { result ≤ at + 4 }
-    ensures written { take result into.new ≡ take at into.old ++ hex group }
+    ensures front { take result into.new ≡ take at into.old ++ hex group }
 {
     let digits = [
         hex_digit(group / 0x1000),

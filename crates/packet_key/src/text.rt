@@ -4,15 +4,14 @@ ghost use Rattle.std.specs.Net.Addr.{segments_of};
 ghost use Rattle.std.specs.Net.Text.{ipv4_text, groups_text};
 ghost use Rattle.packet_key.specs.KeyText.{v4_end, v6_end, flow_text, text_of};
 
-use std::net::Ipv6Addr;
-
 use crate::FlowKey;
 use crate::pieces::{put, put_byte, put_group, put_port};
+use std::net::Ipv6Addr;
 
 fn put_dotted(into: &mut [u8; 100], at: usize, address: u32) -> usize
     requires { at ≤ 85 }
     ensures most { result ≤ at + 15 }
-    ensures written { take result into.new ≡ take at into.old ++ ipv4_text (to_be_bytes w32 address) }
+    ensures front { take result into.new ≡ take at into.old ++ ipv4_text (to_be_bytes w32 address) }
 {
     let [a, b, c, d] = address.to_be_bytes();
     let at = put_byte(into, at, a);
@@ -28,7 +27,7 @@ fn put_dotted(into: &mut [u8; 100], at: usize, address: u32) -> usize
 fn put_v4_end(into: &mut [u8; 100], at: usize, address: u32, port: u16) -> usize
     requires { at ≤ 79 }
     ensures most { result ≤ at + 21 }
-    ensures written { take result into.new ≡ take at into.old ++ v4_end address port }
+    ensures front { take result into.new ≡ take at into.old ++ v4_end address port }
 {
     let at = put_dotted(into, at, address);
     let at = put(into, at, b":");
@@ -38,7 +37,7 @@ fn put_v4_end(into: &mut [u8; 100], at: usize, address: u32, port: u16) -> usize
 fn put_groups(into: &mut [u8; 100], at: usize, address: &[u8; 16]) -> usize
     requires { at ≤ 61 }
     ensures most { result ≤ at + 39 }
-    ensures written { take result into.new ≡ take at into.old ++ groups_text (segments_of address.now) }
+    ensures front { take result into.new ≡ take at into.old ++ groups_text (segments_of address.now) }
 {
     let groups = Ipv6Addr::from_octets(*address).segments();
     let mut end = put_group(into, at, groups[0]);
@@ -53,7 +52,7 @@ fn put_groups(into: &mut [u8; 100], at: usize, address: &[u8; 16]) -> usize
 fn put_v6_end(into: &mut [u8; 100], at: usize, address: &[u8; 16], port: u16) -> usize
     requires { at ≤ 53 }
     ensures most { result ≤ at + 47 }
-    ensures written { take result into.new ≡ take at into.old ++ v6_end address.now port }
+    ensures front { take result into.new ≡ take at into.old ++ v6_end address.now port }
 {
     let at = put(into, at, b"[");
     let at = put_groups(into, at, address);

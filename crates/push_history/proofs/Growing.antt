@@ -1,7 +1,6 @@
 -- Lawful pushes go on with each update: counted alone, refused, or sent.
-use Rattle.std.proofs.Common.{◌≡◌, ◌≢◌, ◌<◌, ◌≤◌, ℕ, ◌+◌, ◌==◌, ◌||◌, ℤ, pos, List, [], ◌∷◌, ◌++◌, length, take, Bool, true, false, nat_lt, refl, sym, ap, ◌∙◌, subst, arith, ◌⊎◌, inl, inr}
-use Rattle.std.specs.Prelude.{filter, map, All}
-use Rattle.std.specs.List.{list_any}
+use Rattle.std.proofs.Common.{◌≡◌, ◌≢◌, ◌<◌, ◌≤◌, ℕ, ◌+◌, ◌==◌, ◌||◌, ℤ, pos, List, [], ◌∷◌, ◌++◌, length, Bool, true, false, nat_lt, refl, sym, ap, ◌∙◌, subst, arith, inl, inr}
+use Rattle.std.specs.Prelude.{map, All}
 use Rattle.std.specs.List.Sorted.{IsStrictlyIncreasing}
 use Rattle.std.proofs.lemmas.List.{take-append-le, take_all, get_or_append_left, get_or_push, length_push, map_push}
 use Rattle.std.proofs.lemmas.List.Elements.{All-push, All-map}
@@ -97,12 +96,12 @@ pushes_counted r T U u S F h small =
       apart = h.apart;
     }
 
-refused_other : (k n : ℕ) (F : List ℕ) → n ≢ k → is_refused k (F ++ n ∷ []) ≡ is_refused k F
+pub refused_other : (k n : ℕ) (F : List ℕ) → n ≢ k → is_refused k (F ++ n ∷ []) ≡ is_refused k F
 refused_other k n F ne =
     let no : (n == k) ≡ false = grind arith in
     list_any-append (λ j. j == k) F (n ∷ []) ∙ rw no (elim (is_refused k F) as (λ b. (b || false) ≡ b) [ true ↦ refl | false ↦ refl ])
 
-refused_same : (n : ℕ) (F : List ℕ) → is_refused n (F ++ n ∷ []) ≡ true
+pub refused_same : (n : ℕ) (F : List ℕ) → is_refused n (F ++ n ∷ []) ≡ true
 refused_same n F =
     let yes : (n == n) ≡ true = grind arith in
     list_any-append (λ j. j == n) F (n ∷ []) ∙ rw yes (elim (is_refused n F) as (λ b. (b || true) ≡ true) [ true ↦ refl | false ↦ refl ])

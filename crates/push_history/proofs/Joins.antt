@@ -1,5 +1,5 @@
 -- Joins of the values of a cell.
-use Rattle.std.proofs.Common.{◌≡◌, ℕ, ◌==◌, ℤ, pos, List, [], ◌∷◌, ◌++◌, Bool, true, false, refl, sym, ap, ◌∙◌, arith}
+use Rattle.std.proofs.Common.{◌≡◌, ℕ, ◌==◌, ℤ, pos, List, [], ◌∷◌, ◌++◌, Bool, true, false, refl, ap, ◌∙◌}
 use Rattle.std.specs.Prelude.{filter, map, fold, All, if◌then◌else◌}
 use Rattle.std.proofs.lemmas.List.Sums.{fold_push}
 use Rattle.std.proofs.lemmas.List.Elements.{All-head, All-tail, All-map, All-filter}
@@ -16,7 +16,7 @@ joined_push : {X : Type 0} (r : Rules) (p : X → Bool) (v : X → ℤ) (xs : Li
 joined_push r p v xs x =
     ap (joined_of r) (kept_push p v xs x)
     ∙ elim (p x) as (λ b. joined_of r (if b then map v (filter p xs) ++ v x ∷ [] else map v (filter p xs)) ≡ (if b then r.join (joined_of r (map v (filter p xs))) (v x) else joined_of r (map v (filter p xs))))
-      [ true ↦ fold_push r.join (pos 0) (map v (filter p xs)) (v x) | false ↦ refl ]
+    [ true ↦ fold_push r.join (pos 0) (map v (filter p xs)) (v x) | false ↦ refl ]
 
 -- one more update
 pub whole_push : (r : Rules) (cell : ℕ) (updates : List Update) (u : Update)

@@ -1,3 +1,9 @@
 pub mod Lists
 pub mod Joins
 pub mod Growing
+pub mod Runs
+pub mod RoundRuns
+pub mod RoundSteps
+pub mod AskLists
+pub mod AskParts
+pub mod RoundAnswers

@@ -1,6 +1,6 @@
 -- Filters, and lists that grow at their end.
-use Rattle.std.proofs.Common.{◌≡◌, ◌<◌, ◌≤◌, ℕ, ◌+◌, List, [], ◌∷◌, ◌++◌, length, get_or, Bool, true, false, nat_lt, refl, sym, ap, ◌∙◌, subst, arith, ◌⊎◌, inl, inr}
-use Rattle.std.specs.Prelude.{filter, map, All, slice_index_or, if◌then◌else◌}
+use Rattle.std.proofs.Common.{◌≡◌, ◌<◌, ℕ, ◌+◌, List, [], ◌∷◌, ◌++◌, length, get_or, Bool, true, false, refl, sym, ap, ◌∙◌, arith, ◌⊎◌, inl, inr}
+use Rattle.std.specs.Prelude.{filter, map, All, if◌then◌else◌}
 use Rattle.std.specs.List.Sorted.{IsStrictlyIncreasing}
 use Rattle.std.proofs.lemmas.List.{map-append, append-nil, get_or_append_left, get_or_push, length_push}
 use Rattle.std.proofs.lemmas.List.Elements.{All-head, All-tail, filter-append}
@@ -26,7 +26,7 @@ pub kept_push : {X Y : Type 0} (p : X → Bool) (v : X → Y) (xs : List X) (x :
 kept_push {X} {Y} p v xs x =
     ap (map v) (filter-append p xs (x ∷ [])) ∙ map-append v (filter p xs) (filter p (x ∷ []))
     ∙ elim (p x) as (λ b. map v (filter p xs) ++ map v (if b then x ∷ [] else []) ≡ (if b then map v (filter p xs) ++ v x ∷ [] else map v (filter p xs)))
-      [ true ↦ refl | false ↦ append-nil (map v (filter p xs)) ]
+    [ true ↦ refl | false ↦ append-nil (map v (filter p xs)) ]
 
 -- a number below one more than the length is the length or below it
 pub last_or_before : {X : Type 0} (xs : List X) (x : X) (k : ℕ) → k < length (xs ++ x ∷ []) → (k ≡ length xs) ⊎ (k < length xs)

@@ -82,9 +82,9 @@ count_step t w worker =
     let updates = updates_by t w in
     if worker.counted == length updates then (worker, Over)
     else if nat_lt (distance_at t.rules updates worker.sent worker.counted) t.threshold then
-        (record { counted = worker.counted + 1; sent = worker.sent; refused = worker.refused; taken = worker.taken }, Counted)
+    (record { counted = worker.counted + 1; sent = worker.sent; refused = worker.refused; taken = worker.taken }, Counted)
     else if nat_lt (length worker.sent - worker.taken) t.capacity then
-        pushes (message_of t.rules w updates worker.sent worker.counted) worker
+    pushes (message_of t.rules w updates worker.sent worker.counted) worker
     else meets_full t.full worker
 
 -- the oldest message of the lane of worker w is folded
@@ -93,12 +93,15 @@ take_step s w =
     let worker = worker_in s w in
     let message = message_at worker.sent worker.taken in
     if worker.taken == length worker.sent then (s, Empty)
-    else (record {
-      workers = slice_set s.workers w (record { counted = worker.counted; sent = worker.sent; refused = worker.refused; taken = worker.taken + 1 });
-      folded = s.folded ++ message ∷ [];
-      shown = s.shown;
-      seen = s.seen;
-    }, Took message.amount)
+    else (
+      record {
+        workers = slice_set s.workers w (record { counted = worker.counted; sent = worker.sent; refused = worker.refused; taken = worker.taken + 1 });
+        folded = s.folded ++ message ∷ [];
+        shown = s.shown;
+        seen = s.seen;
+      },
+      Took message.amount,
+    )
 
 -- what an event makes of a state, and the reply
 unfoldable pub lag_step : Terms → State → Event → State × Reply

@@ -12,3 +12,5 @@ pub mod Answers
 pub mod Journal
 pub mod Rounds
 pub mod LawfulJournal
+pub mod OwnSteps
+pub mod RoundStates

@@ -2,7 +2,7 @@ use Rattle.std.proofs.Common.{◌≡◌, ◌∙◌, ap, None}
 use Rattle.std.specs.Map.{keys_of}
 use Rattle.indexmap.specs.IndexMap.{get}
 use Rattle.indexmap.proofs.CallerLemmas.{insert_entry-new}
-use Rattle.heavy_keys.specs.Noted.{same_key}
+use Rattle.push_history.specs.LiveHeavy.{same_key}
 use Rattle.heavy_keys.proofs.Tables.{looked_up}
 use Rattle.heavy_keys.proofs.Keys.{nothing_found, from_ok, keys_pushed}
 use Rattle.heavy_keys.proofs.heavy.add_last.Goals as goal

@@ -1,5 +1,5 @@
 use Rattle.std.proofs.Common.{◌∙◌, ◌<◌, length, arith}
-use Rattle.heavy_keys.specs.Noted.{same_key}
+use Rattle.push_history.specs.LiveHeavy.{same_key}
 use Rattle.heavy_keys.proofs.Keys.{absent_at, grown_at}
 use Rattle.heavy_keys.proofs.heavy.copy_keys.Goals as goal
 

@@ -20,7 +20,7 @@ loop-at-preserved c =
       inside = omega arith;
       near = omega arith;
       told = c.u16_at-ethertype-in-loop-at.ensures;
-      same = tag_passed _ _ _ tagged (omega arith) c.if-frame-at.false ∙ c.loop-at.invariant.same
+      same = tag_passed _ _ _ tagged (omega arith) c.if-frame-at.false ∙ c.loop-at.invariant.same;
     }
 
 pub returns : goal.returns

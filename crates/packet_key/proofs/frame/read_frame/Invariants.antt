@@ -8,7 +8,7 @@ invariant-loop-at l = record {
   inside : l.at + 2 ≤ length l.frame;
   near : l.at + 4 * l.tags_left ≡ 20;
   told : l.ethertype ≡ u16_of l.frame l.at;
-  same : key_behind l.tags_left l.frame l.at ≡ key_behind 2 l.frame 12
+  same : key_behind l.tags_left l.frame l.at ≡ key_behind 2 l.frame 12;
 }
 
 abbrev pub decreases-loop-at : goal.decreases-loop-at

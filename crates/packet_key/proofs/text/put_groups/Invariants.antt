@@ -6,5 +6,5 @@ use Rattle.packet_key.proofs.text.put_groups.Given as goal
 abbrev pub invariant-loop-place : goal.invariant-loop-place
 invariant-loop-place l = record {
   near : l.end + 1 ≤ l.at + 5 * l.place;
-  told : take l.end l.into ++ flat_map (λ t. 58 ∷ hex t) (drop l.place l.groups) ≡ take l.at l.fn.into ++ groups_text l.groups
+  told : take l.end l.into ++ flat_map (λ t. 58 ∷ hex t) (drop l.place l.groups) ≡ take l.at l.fn.into ++ groups_text l.groups;
 }

@@ -1,6 +1,7 @@
 use Rattle.std.proofs.Common.{rules, ◌≡◌, ◌∙◌, sym, ap, not, ◌&&◌, true}
 use Rattle.std.specs.Prelude.{int_le}
-use Rattle.heavy_keys.specs.Noted.{is_among, HeavyTable}
+use Rattle.push_history.specs.LiveHeavy.{is_among}
+use Rattle.heavy_keys.specs.Noted.{HeavyTable}
 use Rattle.heavy_keys.proofs.Tables.{looked_up}
 use Rattle.heavy_keys.proofs.heavy.Heavy.is_due.Goals as goal
 

@@ -1,0 +1,203 @@
+ghost use Rattle.std.specs.Prelude.{◌≡◌, ◌<◌, ◌≤◌, ◌+◌, ◌-◌, ℕ, ℤ, [], ◌∷◌, ◌++◌, List, length, true, false, nat_le, Some, None, IsSome, IfOk, MatchOption, option_map, slice_index_or};
+ghost use Rattle.packet_key.specs.declared.key.FlowKey.{FlowKey};
+ghost use Rattle.hash_rows.specs.declared.shape.Push.{Push};
+ghost use Rattle.hash_rows.specs.declared.shape.Update.{Update};
+ghost use Rattle.push_history.specs.Pushes.{is_refused};
+ghost use Rattle.push_history.specs.Residue.{residue};
+ghost use Rattle.push_history.specs.Told.{told_of};
+ghost use Rattle.push_history.specs.Whole.{whole_of};
+
+use flow_base::NoMemory;
+use hash_rows::{Bits, Kind};
+use listed::Listed;
+use std::alloc::Global;
+use std::marker::Model;
+
+/// What a worker counted of each cell and told of it.
+#[derive(Drop)]
+pub struct Private<K: Kind> {
+    held: Listed<K::Held>,
+    threshold: u64,
+    room: u32,
+    counted: u32,
+    due: Option<u32>,
+    bits: Bits,
+}
+
+impl<K: Kind> Model for Private<K> {
+    ghost use Rattle.std.specs.Prelude.{◌≡◌, ◌<◌, ◌≤◌, length, ℕ, Some};
+    ghost use Rattle.push_rule.specs.Stands.{Sketch, sketch_code};
+
+    ghost Value = { Sketch K.Held };
+
+    ghost coded = { sketch_code K.Held.code };
+
+    ghost view = { λ p. record { held = p.held.items; threshold = p.threshold; room = p.room; counted = p.counted; due = p.due; bits = p.bits } };
+
+    ghost invariant = { λ p. (length p.bits ≡ p.room) × (p.counted ≤ p.room) × ((cell : ℕ) → p.due ≡ Some cell → (cell < length p.held.items) × (0 < p.counted)) };
+}
+
+impl<K: Kind> Private<K> {
+    ghost use Rattle.push_rule.specs.Stands.{StandsFor, StandsAt, Owes};
+
+    /// A sketch that has counted nothing.
+    pub fn new(
+        alloc: Global,
+        cells: u32,
+        threshold: u64,
+        updates: u32,
+    ) -> Result<Private<K>, NoMemory>
+        requires { 0 < threshold }
+        ensures fresh { IfOk result (λ sketch. StandsFor K.stands K.rules sketch [] [] []) }
+        ensures idle { IfOk result (λ sketch. sketch.due ≡ None) }
+        ensures cells { IfOk result (λ sketch. length sketch.held ≡ cells) }
+        ensures threshold { IfOk result (λ sketch. sketch.threshold ≡ threshold) }
+        ensures room { IfOk result (λ sketch. sketch.room ≡ updates) }
+    {
+        let held = Listed::filled(alloc, cells, K::fresh())?;
+        let bits = Bits::new(alloc, updates)?;
+        Ok(Private {
+            held,
+            threshold,
+            room: updates,
+            counted: 0,
+            due: None,
+            bits,
+        })
+    }
+
+    /// Counts an update. Answers the amount of the push that it makes due.
+    pub fn count(&mut self, cell: u32, value: i64) -> Option<i64>
+        requires idle { self.old.due ≡ None }
+        requires room { self.old.counted < self.old.room }
+        requires cell { cell < length self.old.held }
+        requires value { K.rules.is_value value ≡ true }
+        ensures due { (told whole : ℤ) → StandsAt K.stands self.old.held cell told whole
+            → Owes K.rules self.old.threshold told (K.rules.join whole value) result }
+        ensures marked { self.new.due ≡ option_map (λ _. cell) result }
+        ensures stands { (packet : ℕ) (key : FlowKey) (updates : List Update) (messages : List Push) (refused : List ℕ)
+            → StandsFor K.stands K.rules self.old updates messages refused
+            → StandsFor K.stands K.rules self.new (updates ++ record { packet = packet; key = key; cell = cell; value = value } ∷ []) messages refused }
+        ensures threshold { self.new.threshold ≡ self.old.threshold }
+        ensures room_stays { self.new.room ≡ self.old.room }
+        ensures cells { length self.new.held ≡ length self.old.held }
+    {
+        let held = K::counted(*self.held.get(cell), value);
+        self.held.set(cell, held);
+        self.counted += 1;
+        let (distance, gap) = K::unsent(held);
+        if distance >= self.threshold {
+            self.due = Some(cell);
+            Some(gap)
+        } else {
+            None
+        }
+    }
+
+    /// Whether counting this update would make a push due.
+    pub fn due_with(&self, cell: u32, value: i64) -> bool
+        requires idle { self.now.due ≡ None }
+        requires room { self.now.counted < self.now.room }
+        requires cell { cell < length self.now.held }
+        requires value { K.rules.is_value value ≡ true }
+        ensures due { (told whole : ℤ) → StandsAt K.stands self.now.held cell told whole
+            → result ≡ nat_le self.now.threshold (K.rules.distance told (K.rules.join whole value)) }
+        ensures stands { (updates : List Update) (messages : List Push) (refused : List ℕ)
+            → StandsFor K.stands K.rules self.now updates messages refused
+            → result ≡ nat_le self.now.threshold (K.rules.distance (told_of K.rules cell messages) (K.rules.join (whole_of K.rules cell updates) value)) }
+    {
+        let (distance, _) = K::unsent(K::counted(*self.held.get(cell), value));
+        self.threshold <= distance
+    }
+
+    /// The due push was sent.
+    pub fn sent(&mut self)
+        requires { IsSome self.old.due }
+        ensures stands { (worker packet : ℕ) (key : FlowKey) (updates : List Update) (messages : List Push) (refused : List ℕ)
+            → StandsFor K.stands K.rules self.old updates messages refused
+            → MatchOption self.old.due (StandsFor K.stands K.rules self.new updates messages refused)
+            (λ cell. StandsFor K.stands K.rules self.new updates (messages ++ record {
+              worker = worker;
+              packet = packet;
+              update = self.old.counted - 1;
+              key = key;
+              cell = cell;
+              amount = K.rules.gap (told_of K.rules cell messages) (whole_of K.rules cell updates);
+            } ∷ []) refused) }
+        ensures idle { self.new.due ≡ None }
+        ensures counted { self.new.counted ≡ self.old.counted }
+        ensures threshold { self.new.threshold ≡ self.old.threshold }
+        ensures room { self.new.room ≡ self.old.room }
+        ensures cells { length self.new.held ≡ length self.old.held }
+    {
+        match self.due {
+            Some(cell) => {
+                let held = K::told_all(*self.held.get(cell));
+                self.held.set(cell, held);
+                self.due = None;
+            }
+            None => unreachable!(),
+        }
+    }
+
+    /// The due push was refused.
+    pub fn refused(&mut self)
+        requires { IsSome self.old.due }
+        ensures stands { (updates : List Update) (messages : List Push) (refused : List ℕ)
+            → StandsFor K.stands K.rules self.old updates messages refused
+            → StandsFor K.stands K.rules self.new updates messages (refused ++ (self.old.counted - 1) ∷ []) }
+        ensures held { self.new.held ≡ self.old.held }
+        ensures idle { self.new.due ≡ None }
+        ensures counted { self.new.counted ≡ self.old.counted }
+        ensures threshold { self.new.threshold ≡ self.old.threshold }
+        ensures room { self.new.room ≡ self.old.room }
+    {
+        match self.due {
+            Some(_) => {
+                self.bits.set(self.counted - 1);
+                self.due = None;
+            }
+            None => unreachable!(),
+        }
+    }
+
+    /// What was counted of the cell and not told.
+    pub fn residue(&self, cell: u32) -> i64
+        requires { cell < length self.now.held }
+        ensures gap { (told whole : ℤ) → StandsAt K.stands self.now.held cell told whole → result ≡ K.rules.gap told whole }
+        ensures stands { (updates : List Update) (messages : List Push) (refused : List ℕ)
+            → StandsFor K.stands K.rules self.now updates messages refused
+            → result ≡ residue K.rules updates messages (length updates) cell }
+    {
+        K::unsent(*self.held.get(cell)).1
+    }
+
+    /// How many updates were counted.
+    pub fn counted(&self) -> u32
+        ensures { result ≡ self.now.counted }
+    {
+        self.counted
+    }
+
+    /// Whether the push of this update was refused.
+    pub fn refused_at(&self, update: u32) -> bool
+        requires { update < self.now.room }
+        ensures bit { result ≡ slice_index_or self.now.bits update false }
+        ensures stands { (updates : List Update) (messages : List Push) (refused : List ℕ)
+            → StandsFor K.stands K.rules self.now updates messages refused
+            → result ≡ is_refused update refused }
+    {
+        self.bits.get(update)
+    }
+
+    /// For each update whether its push was refused.
+    pub fn into_bits(self) -> Bits
+        ensures bits { result ≡ self.bits }
+        ensures length { length result ≡ self.room }
+        ensures stands { (updates : List Update) (messages : List Push) (refused : List ℕ)
+            → StandsFor K.stands K.rules self updates messages refused
+            → (k : ℕ) → slice_index_or result k false ≡ is_refused k refused }
+    {
+        self.bits
+    }
+}

@@ -1,0 +1,98 @@
+-- The options that parts give are lawful.
+use Rattle.std.proofs.Common.{◌≡◌, ◌∙◌, ◌<◌, ◌≤◌, ◌≢◌, ℕ, Bool, true, false, not, sym, subst, arith, List, [], ◌∷◌, length, Option, Some, None, codes, true≢false, ◌||◌}
+use Rattle.std.specs.Prelude.{ℤ, pos, ◌≤ℤ◌, AllPairs, is_some}
+use Rattle.std.proofs.lemmas.Int.{ints}
+use Rattle.hash_rows.specs.Lawful.{IsLawful, Suits}
+use Rattle.hash_rows.specs.Shapes.{IsShape}
+use Rattle.hash_rows.specs.declared.options.Options.{Options}
+use Rattle.hash_rows.specs.declared.options.Sketch.{Sketch}
+use Rattle.hash_rows.specs.declared.options.Sketch.TheVariants.{CountMin, CountSketch, LogLog}
+use Rattle.hash_rows.specs.declared.shape.Shape.{Shape}
+use Rattle.packet_key.specs.declared.key.FlowKey.{FlowKey}
+use Rattle.words.specs.Grammar.{Part, Text, value_in}
+use Rattle.words.specs.Options.{GivesOptions, GivesShape, most_rows, suits, usual_rows, usual_threshold}
+use Rattle.words.specs.Values.{ReadsInteger, ReadsKeys, ReadsNumber}
+
+-- a number that is read is in range
+pub in_range : (low high d : ℕ) (v : Option Text) (n : ℕ) → low ≤ d → d ≤ high → ReadsNumber low high d v n → (low ≤ n) × (n ≤ high)
+in_range low high d None n above below r = (omega arith, omega arith)
+in_range low high d (Some t) n above below r = (r.1, r.2)
+
+least_in_range : (low high d : ℕ) (v : Option Text) (z : ℤ) → low ≤ d → d ≤ high → ReadsInteger low high d v z → (pos low ≤ℤ z) × (z ≤ℤ pos high)
+least_in_range low high d None z above below r = (omega (arith, ints, r), omega (arith, ints, r))
+least_in_range low high d (Some t) z above below r = (omega (arith, ints, r.1, r.2), omega (arith, ints, r.1, r.2))
+
+rows_in_range : (k : Sketch) (v : Option Text) (n : ℕ) → ReadsNumber 1 (most_rows k) (usual_rows k) v n → (1 ≤ n) × (n ≤ most_rows k) × (most_rows k ≤ 8)
+rows_in_range CountMin v n r = let b = in_range 1 8 4 v n (omega arith) (omega arith) r in (b.0, b.1, omega arith)
+rows_in_range CountSketch v n r = let b = in_range 1 8 4 v n (omega arith) (omega arith) r in (b.0, b.1, omega arith)
+rows_in_range LogLog v n r = let b = in_range 1 1 1 v n (omega arith) (omega arith) r in (b.0, b.1, omega arith)
+
+threshold_in_range : (k : Sketch) (v : Option Text) (n : ℕ) → ReadsNumber 1 1099511627776 (usual_threshold k) v n → (1 ≤ n) × (n ≤ 1099511627776)
+threshold_in_range CountMin v n r = in_range 1 1099511627776 16 v n (omega arith) (omega arith) r
+threshold_in_range CountSketch v n r = in_range 1 1099511627776 16 v n (omega arith) (omega arith) r
+threshold_in_range LogLog v n r = in_range 1 1099511627776 1 v n (omega arith) (omega arith) r
+
+no_pairs : (ks : List FlowKey) → ks ≡ [] → AllPairs (λ a b. a ≢ b) ks
+no_pairs [] e = λ i j d lt within. absurd (omega arith)
+no_pairs (k ∷ ks) e = cc
+
+few_watched : (v : Option Text) (ks : List FlowKey) → ReadsKeys v ks → length ks ≤ 16
+few_watched None ks r = subst (λ (xs : List FlowKey). length xs ≤ 16) (sym r) (omega arith)
+few_watched (Some t) ks r = r.most
+
+watched_differ : (v : Option Text) (ks : List FlowKey) → ReadsKeys v ks → AllPairs (λ a b. a ≢ b) ks
+watched_differ None ks r = no_pairs ks r
+watched_differ (Some t) ks r = r.differ
+
+unwatched : (a v w x : Option Text) (ks : List FlowKey) → not (is_some a || is_some v || is_some w || is_some x) ≡ true → ReadsKeys v ks → ks ≡ []
+unwatched (Some t) v w x ks e r = absurd (true≢false (sym e))
+unwatched None (Some t) w x ks e r = absurd (true≢false (sym e))
+unwatched None None w x ks e r = r
+
+suits_sketch : (k : Sketch) (parts : List Part) (shape : Shape) (ks : List FlowKey) → suits k parts ≡ true → GivesShape parts k shape
+    → ReadsKeys (value_in (codes "watch") parts) ks → Suits k shape ks
+suits_sketch CountMin parts shape ks e g r = tt
+suits_sketch CountSketch parts shape ks e g r = tt
+suits_sketch LogLog parts shape ks e g r =
+    let rows = in_range 1 1 1 _ shape.rows (omega arith) (omega arith) g.rows in
+    (omega (arith, rows.0, rows.1), g.registers, unwatched _ _ _ _ ks e r)
+
+is_shape : (k : Sketch) (parts : List Part) (shape : Shape) → GivesShape parts k shape → IsShape shape
+is_shape k parts shape g =
+    let rows = rows_in_range k _ shape.rows g.rows in
+    let columns = in_range 1 65536 2048 _ shape.columns (omega arith) (omega arith) g.columns in
+    record { some_rows = rows.0; rows = omega (arith, rows.1, rows.2); some_columns = columns.0; columns = columns.1 }
+
+pub lawful : (parts : List Part) (o : Options) → GivesOptions parts o → IsLawful o
+lawful parts o g =
+    let workers = in_range 1 16 4 _ o.workers (omega arith) (omega arith) g.workers in
+    let threshold = threshold_in_range o.sketch _ o.threshold g.threshold in
+    let lane = in_range 1 4096 64 _ o.lane (omega arith) (omega arith) g.lane in
+    let batch = in_range 1 1024 32 _ o.batch (omega arith) (omega arith) g.batch in
+    let round = in_range 1 65536 64 _ o.round (omega arith) (omega arith) g.round in
+    let readers = in_range 0 4 0 _ o.readers (omega arith) (omega arith) g.readers in
+    let asks = in_range 0 1024 0 _ o.asks (omega arith) (omega arith) g.asks in
+    let heavy = in_range 1 1024 64 _ o.heavy (omega arith) (omega arith) g.heavy in
+    let least = least_in_range 1 1099511627776 1024 _ o.least (omega arith) (omega arith) g.least in
+    record {
+      shape = is_shape o.sketch parts o.shape g.shape;
+      some_workers = workers.0;
+      workers = workers.1;
+      some_threshold = threshold.0;
+      threshold = threshold.1;
+      some_lane = lane.0;
+      lane = lane.1;
+      some_batch = batch.0;
+      batch = batch.1;
+      some_round = round.0;
+      round = round.1;
+      readers = readers.1;
+      asks = asks.1;
+      watch = few_watched _ o.watch.items g.watch;
+      distinct = watched_differ _ o.watch.items g.watch;
+      some_heavy = heavy.0;
+      heavy = heavy.1;
+      some_least = least.0;
+      least = least.1;
+      suits = suits_sketch o.sketch parts o.shape o.watch.items g.suited g.shape g.watch;
+    }

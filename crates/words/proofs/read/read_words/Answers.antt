@@ -1,0 +1,30 @@
+use Rattle.std.proofs.Common.{rules, ◌≡◌, ◌∷◌, codes, map, string_bytes}
+use Rattle.std.proofs.lemmas.Result.{IfErr-weaker, IfOk-weaker}
+use Rattle.words.proofs.Commands.{load_gives, load_lawful, load_once, run_gives, run_lawful, run_once}
+use Rattle.words.proofs.read.read_words.Goals as goal
+
+pub returns-in-run-clause-once : goal.returns-in-run-clause-once
+returns-in-run-clause-once c =
+    let words : map string_bytes c.args.words.now ≡ codes "run" ∷ map string_bytes c.in-Some.rest.now = search rules in
+    IfOk-weaker c.read_run.result _ _ (λ d once. run_once _ _ d words once) c.read_run.ensures.once
+
+pub returns-in-run-clause-lawful : goal.returns-in-run-clause-lawful
+returns-in-run-clause-lawful c = IfOk-weaker c.read_run.result _ _ (λ d ok. run_lawful _ d ok) c.read_run.ensures.ok
+
+pub returns-in-run-clause-usage : goal.returns-in-run-clause-usage
+returns-in-run-clause-usage c =
+    let words : map string_bytes c.args.words.now ≡ codes "run" ∷ map string_bytes c.in-Some.rest.now = search rules in
+    IfErr-weaker c.read_run.result _ _ (λ e none is d g. let r = run_gives _ _ d words g in none is r.0 r.2) c.read_run.ensures.usage
+
+pub returns-in-load-clause-once : goal.returns-in-load-clause-once
+returns-in-load-clause-once c =
+    let words : map string_bytes c.args.words.now ≡ codes "load" ∷ map string_bytes c.in-Some.rest.now = search rules in
+    IfOk-weaker c.read_load.result _ _ (λ d once. load_once _ _ d words once) c.read_load.ensures.once
+
+pub returns-in-load-clause-lawful : goal.returns-in-load-clause-lawful
+returns-in-load-clause-lawful c = IfOk-weaker c.read_load.result _ _ (λ d ok. load_lawful _ d ok) c.read_load.ensures.ok
+
+pub returns-in-load-clause-usage : goal.returns-in-load-clause-usage
+returns-in-load-clause-usage c =
+    let words : map string_bytes c.args.words.now ≡ codes "load" ∷ map string_bytes c.in-Some.rest.now = search rules in
+    IfErr-weaker c.read_load.result _ _ (λ e none is d g. let r = load_gives _ _ d words g in none is r.0 r.1 r.2 r.4) c.read_load.ensures.usage

@@ -1,0 +1,90 @@
+-- The commands that words give.
+use Rattle.std.specs.Prelude.{◌≡◌, ◌∷◌, ◌||◌, ℕ, Bool, true, not, List, Option, None, is_some, codes}
+use Rattle.hash_rows.specs.Lawful.{IsRegisters}
+use Rattle.hash_rows.specs.OptionTexts.{amount_text, full_text, share_text, sketch_text}
+use Rattle.hash_rows.specs.declared.options.Amount.TheVariants.{Packets}
+use Rattle.hash_rows.specs.declared.options.Full.TheVariants.{Leave}
+use Rattle.hash_rows.specs.declared.options.Mode.TheVariants.{Rounds}
+use Rattle.hash_rows.specs.declared.options.Options.{Options}
+use Rattle.hash_rows.specs.declared.options.Share.TheVariants.{Turn}
+use Rattle.hash_rows.specs.declared.options.Sketch.{Sketch}
+use Rattle.hash_rows.specs.declared.options.Sketch.TheVariants.{CountMin, CountSketch, LogLog}
+use Rattle.hash_rows.specs.declared.shape.Shape.{Shape}
+use Rattle.words.specs.Grammar.{IsLine, Part, Text, is_in, value_in}
+use Rattle.words.specs.Names.{line_names}
+use Rattle.words.specs.Values.{NeedsNumber, ReadsChoice, ReadsInteger, ReadsKeys, ReadsNumber}
+use Rattle.words.specs.declared.command.Command.{Command}
+use Rattle.words.specs.declared.command.Command.TheVariants.{Run, Load}
+
+-- the greatest number of rows, and the numbers where none is given
+abbrev pub most_rows : Sketch → ℕ
+most_rows LogLog = 1
+most_rows _ = 8
+
+abbrev pub usual_rows : Sketch → ℕ
+usual_rows LogLog = 1
+usual_rows _ = 4
+
+abbrev pub usual_threshold : Sketch → ℕ
+usual_threshold LogLog = 1
+usual_threshold _ = 16
+
+-- the columns that a sketch can have, among those from 1 to 65,536
+abbrev pub HasRegisters : Sketch → ℕ → Type 0
+HasRegisters LogLog n = IsRegisters n
+HasRegisters _ n = Unit {0}
+
+-- the parts name nothing that the sketch has no use for
+abbrev pub suits : Sketch → List Part → Bool
+suits LogLog parts = not (is_some (value_in (codes "amount") parts) || is_some (value_in (codes "watch") parts)
+    || is_some (value_in (codes "heavy") parts) || is_some (value_in (codes "least") parts))
+suits _ parts = true
+
+-- the parts give the shape of this sketch
+pub record GivesShape (parts : List Part) (sketch : Sketch) (shape : Shape) : Type 0 where
+  pub rows : ReadsNumber 1 (most_rows sketch) (usual_rows sketch) (value_in (codes "rows") parts) shape.rows
+  pub columns : ReadsNumber 1 65536 2048 (value_in (codes "columns") parts) shape.columns
+  pub registers : HasRegisters sketch shape.columns
+
+-- the parts give these options; the list of watched keys has room for the most that can be given
+pub record GivesOptions (parts : List Part) (o : Options) : Type 0 where
+  pub sketch : ReadsChoice sketch_text CountMin (value_in (codes "sketch") parts) o.sketch
+  pub suited : suits o.sketch parts ≡ true
+  pub shape : GivesShape parts o.sketch o.shape
+  pub amount : ReadsChoice amount_text Packets (value_in (codes "amount") parts) o.amount
+  pub share : ReadsChoice share_text Turn (value_in (codes "share") parts) o.share
+  pub workers : ReadsNumber 1 16 4 (value_in (codes "workers") parts) o.workers
+  pub threshold : ReadsNumber 1 1099511627776 (usual_threshold o.sketch) (value_in (codes "threshold") parts) o.threshold
+  pub lane : ReadsNumber 1 4096 64 (value_in (codes "lane") parts) o.lane
+  pub batch : ReadsNumber 1 1024 32 (value_in (codes "batch") parts) o.batch
+  pub round : ReadsNumber 1 65536 64 (value_in (codes "round") parts) o.round
+  pub full : ReadsChoice full_text Leave (value_in (codes "full") parts) o.full
+  pub mode : o.mode ≡ Rounds
+  pub readers : ReadsNumber 0 4 0 (value_in (codes "readers") parts) o.readers
+  pub asks : ReadsNumber 0 1024 0 (value_in (codes "asks") parts) o.asks
+  pub watch : ReadsKeys (value_in (codes "watch") parts) o.watch.items
+  pub room : o.watch.room ≡ 16
+  pub heavy : ReadsNumber 1 1024 64 (value_in (codes "heavy") parts) o.heavy
+  pub least : ReadsInteger 1 1099511627776 1024 (value_in (codes "least") parts) o.least
+  pub journal : o.journal ≡ is_in (codes "journal") parts
+
+-- the words behind `run` give the options
+abbrev pub GivesRun : List Text → Options → Type 0
+GivesRun rest o = (parts : List Part) × IsLine line_names parts rest × GivesOptions parts o
+    × (value_in (codes "records") parts ≡ None) × (value_in (codes "start") parts ≡ None)
+
+-- the words behind `load` give the number of records, the start and the options
+abbrev pub GivesLoad : List Text → ℕ → ℕ → Options → Type 0
+GivesLoad rest records start o = (parts : List Part) × IsLine line_names parts rest × GivesOptions parts o
+    × NeedsNumber 0 1048576 (value_in (codes "records") parts) records
+    × NeedsNumber 0 4294967295 (value_in (codes "start") parts) start
+
+-- the grammar: the words give the command
+abbrev pub Gives : List Text → Command → Type 0
+Gives words (Run o) = (rest : List Text) × (words ≡ codes "run" ∷ rest) × GivesRun rest o
+Gives words (Load records start o) = (rest : List Text) × (words ≡ codes "load" ∷ rest) × GivesLoad rest records start o
+
+-- the options of a command
+abbrev pub options_in : Command → Options
+options_in (Run o) = o
+options_in (Load records start o) = o

@@ -1,0 +1,43 @@
+-- What the values of a line say: numbers, choices and lists of keys.
+use Rattle.std.specs.Prelude.{◌≡◌, ◌≢◌, ◌≤◌, ℕ, ℤ, pos, List, [], map, length, Option, Some, None, All, AllPairs, decimal}
+use Rattle.std.specs.List.{join_with_byte}
+use Rattle.packet_key.specs.declared.key.FlowKey.{FlowKey}
+use Rattle.packet_key.specs.KeyText.{IsKey, text_of}
+use Rattle.words.specs.Grammar.{Text}
+
+-- the text writes the number in digits, without a sign or a leading zero, and it is in range
+abbrev pub IsNumberIn : ℕ → ℕ → Text → ℕ → Type 0
+IsNumberIn low high text n = (text ≡ decimal n) × (low ≤ n) × (n ≤ high)
+
+-- the number of a name that has to stand
+abbrev pub NeedsNumber : ℕ → ℕ → Option Text → ℕ → Type 0
+NeedsNumber low high None n = ⊥
+NeedsNumber low high (Some text) n = IsNumberIn low high text n
+
+-- the number of a name that may be missing
+abbrev pub ReadsNumber : ℕ → ℕ → ℕ → Option Text → ℕ → Type 0
+ReadsNumber low high otherwise None n = n ≡ otherwise
+ReadsNumber low high otherwise (Some text) n = IsNumberIn low high text n
+
+-- the same of a number that is kept with a sign
+abbrev pub ReadsInteger : ℕ → ℕ → ℕ → Option Text → ℤ → Type 0
+ReadsInteger low high otherwise None z = z ≡ pos otherwise
+ReadsInteger low high otherwise (Some text) z = (n : ℕ) × (z ≡ pos n) × IsNumberIn low high text n
+
+-- the choice of a name that may be missing, where each choice has a text
+abbrev pub ReadsChoice : {C : Type 0} → (C → Text) → C → Option Text → C → Type 0
+ReadsChoice text_for otherwise None c = c ≡ otherwise
+ReadsChoice text_for otherwise (Some text) c = text ≡ text_for c
+
+-- the text is the texts of 1 to 16 different keys, joined by commas
+pub record JoinsKeys (text : Text) (keys : List FlowKey) : Type 0 where
+  pub joined : text ≡ join_with_byte 44 (map text_of keys)
+  pub some : 1 ≤ length keys
+  pub most : length keys ≤ 16
+  pub are_keys : All IsKey keys
+  pub differ : AllPairs (λ a b. a ≢ b) keys
+
+-- the keys of a name that may be missing
+abbrev pub ReadsKeys : Option Text → List FlowKey → Type 0
+ReadsKeys None keys = keys ≡ []
+ReadsKeys (Some text) keys = JoinsKeys text keys

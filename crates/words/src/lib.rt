@@ -1,0 +1,15 @@
+//! The grammar of the command line, and its reading through `clap`. A command is `run` or `load`
+//! with options; the options' mode is always `Rounds`, for which the grammar has no word yet.
+#![tactic(auto)]
+
+mod command;
+mod options;
+mod parser;
+mod read;
+#[cfg(test)]
+mod tests;
+mod values;
+mod watch;
+
+pub use command::{Command, WordStop};
+pub use read::read_words;

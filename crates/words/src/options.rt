@@ -1,0 +1,136 @@
+ghost use Rattle.std.specs.Prelude.{◌≡◌, ℕ, List, MatchOption, true, false};
+ghost use Rattle.packet_key.specs.declared.key.FlowKey.{FlowKey};
+ghost use Rattle.words.specs.Grammar.{Part, value_in};
+ghost use Rattle.words.specs.Names.{line_names};
+ghost use Rattle.words.specs.Matches.{AreMatches};
+ghost use Rattle.words.specs.Values.{ReadsKeys};
+ghost use Rattle.words.specs.Options.{GivesOptions, GivesShape, HasRegisters, most_rows, usual_rows, usual_threshold, suits};
+ghost use Rattle.std.specs.Prelude.{codes};
+
+use crate::values::{
+    amount_or, full_or, is_registers, least_or, number_or, share_or, sketch_or, small_or,
+};
+use clap::ArgMatches;
+use hash_rows::{Keys, Mode, Options, Shape, Sketch};
+
+fn most_rows(sketch: Sketch) -> u32
+    ensures { result ≡ most_rows sketch }
+{
+    match sketch {
+        Sketch::LogLog => 1,
+        _ => 8,
+    }
+}
+
+fn usual_rows(sketch: Sketch) -> u32
+    ensures { result ≡ usual_rows sketch }
+{
+    match sketch {
+        Sketch::LogLog => 1,
+        _ => 4,
+    }
+}
+
+fn usual_threshold(sketch: Sketch) -> u64
+    ensures { result ≡ usual_threshold sketch }
+{
+    match sketch {
+        Sketch::LogLog => 1,
+        _ => 16,
+    }
+}
+
+// Whether the sketch can have so many columns.
+fn has_columns(sketch: Sketch, columns: u32) -> bool
+    ensures yes { result ≡ true → HasRegisters sketch columns }
+    ensures no { result ≡ false → HasRegisters sketch columns → ⊥ }
+{
+    match sketch {
+        Sketch::LogLog => is_registers(columns),
+        _ => true,
+    }
+}
+
+// Whether the matches name nothing that the sketch has no use for.
+fn suits(matches: &ArgMatches<'_>, sketch: Sketch) -> bool
+    ensures { (parts : List Part) → AreMatches line_names parts matches.now → result ≡ suits sketch parts }
+{
+    match sketch {
+        Sketch::LogLog => {
+            !(matches.get_str("amount").is_some()
+                || matches.get_str("watch").is_some()
+                || matches.get_str("heavy").is_some()
+                || matches.get_str("least").is_some())
+        }
+        _ => true,
+    }
+}
+
+// The shape that the matches hold.
+fn shape_of(matches: &ArgMatches<'_>, sketch: Sketch) -> Option<Shape>
+    ensures { (parts : List Part) → AreMatches line_names parts matches.now
+        → MatchOption result ((s : Shape) → GivesShape parts sketch s → ⊥) (GivesShape parts sketch) }
+{
+    let rows = small_or(
+        matches.get_str("rows"),
+        1,
+        most_rows(sketch),
+        usual_rows(sketch),
+    )?;
+    let columns = small_or(matches.get_str("columns"), 1, 65536, 2048)?;
+    if !has_columns(sketch, columns) {
+        return None;
+    }
+    Some(Shape { rows, columns })
+}
+
+/// The options that the matches hold, with the keys that they watch.
+pub(crate) fn options_of(matches: &ArgMatches<'_>, watch: Keys) -> Option<Options>
+    ensures { (parts : List Part) → AreMatches line_names parts matches.now
+        → ReadsKeys (value_in (codes "watch") parts) watch.items → watch.room ≡ 16
+        → MatchOption result ((o : Options) → GivesOptions parts o → ⊥) (GivesOptions parts) }
+{
+    let sketch = sketch_or(matches.get_str("sketch"))?;
+    if !suits(matches, sketch) {
+        return None;
+    }
+    let threshold = number_or(
+        matches.get_str("threshold"),
+        1,
+        1099511627776,
+        usual_threshold(sketch),
+    )?;
+    let shape = shape_of(matches, sketch)?;
+    let amount = amount_or(matches.get_str("amount"))?;
+    let share = share_or(matches.get_str("share"))?;
+    let full = full_or(matches.get_str("full"))?;
+    let workers = small_or(matches.get_str("workers"), 1, 16, 4)?;
+    let lane = small_or(matches.get_str("lane"), 1, 4096, 64)?;
+    let batch = small_or(matches.get_str("batch"), 1, 1024, 32)?;
+    let round = small_or(matches.get_str("round"), 1, 65536, 64)?;
+    let readers = small_or(matches.get_str("readers"), 0, 4, 0)?;
+    let asks = small_or(matches.get_str("asks"), 0, 1024, 0)?;
+    let heavy = small_or(matches.get_str("heavy"), 1, 1024, 64)?;
+    let least = least_or(matches.get_str("least"))?;
+    let journal = matches.get_flag("journal");
+    let mode = Mode::Rounds;
+    Some(Options {
+        sketch,
+        shape,
+        amount,
+        share,
+        workers,
+        threshold,
+        lane,
+        batch,
+        round,
+        full,
+        mode,
+        readers,
+        asks,
+        watch,
+        heavy,
+        least,
+        journal,
+    })
+}

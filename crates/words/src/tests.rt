@@ -1,0 +1,143 @@
+use crate::{Command, WordStop, read_words};
+use hash_rows::{Amount, Full, Mode, Options, Shape, Share, Sketch};
+use packet_key::parse_key;
+use std::alloc::Global;
+use std::test::Fail;
+
+fn read(alloc: Global, words: &[&str]) -> Result<Option<Command>, Fail> {
+    let mut owned = Vec::new(alloc);
+    for word in words {
+        owned.push(String::from_str(alloc, word)?)?;
+    }
+    match read_words(alloc, owned.as_slice()) {
+        Ok(command) => Ok(Some(command)),
+        Err(WordStop::Usage) => Ok(None),
+        Err(WordStop::NoMemory) => Err(Fail::from("no memory")),
+    }
+}
+
+fn run(alloc: Global, words: &[&str]) -> Result<Options, Fail> {
+    match read(alloc, words)? {
+        Some(Command::Run(options)) => Ok(options),
+        _ => Err(Fail::from("no run")),
+    }
+}
+
+#[test]
+fn refuses_what_the_grammar_lacks(rt: HostRuntime) -> Result<(), Fail> {
+    let refused: [&[&str]; 24] = [
+        &[],
+        &["walk"],
+        &["run", "--threshold", "0"],
+        &["run", "--workers", "17"],
+        &["run", "--rows", "04"],
+        &["run", "--rows", "+4"],
+        &["run", "--rows", "2", "--rows", "2"],
+        &["run", "--speed", "1"],
+        &["run", "--"],
+        &["run", "-"],
+        &["run", "--share", "-"],
+        &["run", "--help"],
+        &["run", "--row", "2"],
+        &["run", "--rows="],
+        &["run", "--rows"],
+        &["run", "--rows==2"],
+        &["run", "--journal="],
+        &["run", "--mode", "threads"],
+        &["run", "--records", "1"],
+        &["load", "--records", "1"],
+        &["run", "--sketch", "loglog", "--rows", "2"],
+        &["run", "--sketch", "loglog", "--columns", "100"],
+        &["run", "--sketch", "loglog", "--amount", "packets"],
+        &["run", "--watch", "10.0.0.1:80>10.0.0.2:443/6,"],
+    ];
+    for words in refused {
+        assert!(rt; read(rt.alloc(), words)?.is_none());
+    }
+    Ok(())
+}
+
+#[test]
+fn options_have_defaults(rt: HostRuntime) -> Result<(), Fail> {
+    let plain = run(rt.alloc(), &["run"])?;
+    assert_eq!(rt; plain.sketch, Sketch::CountMin);
+    assert_eq!(rt;
+        plain.shape,
+        Shape {
+            rows: 4,
+            columns: 2048
+        }
+    );
+    assert_eq!(rt; plain.amount, Amount::Packets);
+    assert_eq!(rt; plain.share, Share::Turn);
+    assert_eq!(rt; (plain.workers, plain.threshold), (4, 16));
+    assert_eq!(rt; (plain.lane, plain.batch, plain.round), (64, 32, 64));
+    assert_eq!(rt; plain.full, Full::Leave);
+    assert_eq!(rt; plain.mode, Mode::Rounds);
+    assert_eq!(rt; (plain.readers, plain.asks, plain.watch.len()), (0, 0, 0));
+    assert_eq!(rt; (plain.heavy, plain.least), (64, 1024));
+    assert!(rt; !plain.journal);
+    let registers = run(rt.alloc(), &["run", "--sketch", "loglog"])?;
+    assert_eq!(rt;
+        registers.shape,
+        Shape {
+            rows: 1,
+            columns: 2048
+        }
+    );
+    assert_eq!(rt; registers.threshold, 1);
+    Ok(())
+}
+
+#[test]
+fn values_stand_behind_a_space_or_a_sign(rt: HostRuntime) -> Result<(), Fail> {
+    let spaced = run(
+        rt.alloc(),
+        &["run", "--rows", "2", "--journal", "--share", "key"],
+    )?;
+    let joined = run(rt.alloc(), &["run", "--share=key", "--rows=2", "--journal"])?;
+    assert_eq!(rt; (spaced.shape.rows, joined.shape.rows), (2, 2));
+    assert_eq!(rt; (spaced.share, joined.share), (Share::Key, Share::Key));
+    assert!(rt; spaced.journal && joined.journal);
+    Ok(())
+}
+
+#[test]
+fn loads_a_generated_capture(rt: HostRuntime) -> Result<(), Fail> {
+    let words = [
+        "load",
+        "--start",
+        "4294967295",
+        "--amount=bytes",
+        "--records",
+        "1048576",
+    ];
+    match read(rt.alloc(), &words)? {
+        Some(
+            Command::Load {
+                records,
+                start,
+                options,
+            },
+        ) => {
+            assert_eq!(rt; (records, start), (1048576, 4294967295));
+            assert_eq!(rt; options.amount, Amount::Bytes);
+            Ok(())
+        }
+        _ => Err(Fail::from("no load")),
+    }
+}
+
+#[test]
+fn watches_keys(rt: HostRuntime) -> Result<(), Fail> {
+    let first = "10.0.0.1:80>10.0.0.2:443/6";
+    let second = "[2001:db8:0:0:0:0:0:1]:53>[2001:db8:0:0:0:0:0:2]:1234/17";
+    let list =
+        "10.0.0.1:80>10.0.0.2:443/6,[2001:db8:0:0:0:0:0:1]:53>[2001:db8:0:0:0:0:0:2]:1234/17";
+    let options = run(rt.alloc(), &["run", "--watch", list])?;
+    let keys = options.watch.as_slice();
+    assert_eq!(rt; keys.len(), 2);
+    assert_eq!(rt; Some(keys[0]), parse_key(first));
+    assert_eq!(rt; Some(keys[1]), parse_key(second));
+    Ok(())
+}
