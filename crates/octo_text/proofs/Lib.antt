@@ -1,0 +1,4 @@
+pub mod NumberLemmas
+pub mod RunLemmas
+pub mod WorkerLemmas
+pub mod OptionLemmas

@@ -1,0 +1,14 @@
+//! The texts of the report and of the journal.
+#![tactic(auto)]
+
+mod answers;
+mod choices;
+mod journal;
+mod line;
+mod lines;
+mod report;
+mod runs;
+mod workers;
+
+pub use journal::Journal;
+pub use report::{Report, write_report};
