@@ -19,7 +19,7 @@ use Rattle.push_history.proofs.Lists.{filter_kept, filter_push_no, increasing_pu
 no_update : Update
 no_update = record { packet = 0; key = zero_key; cell = 0; value = pos 0 }
 
-update_before : (U : List Update) (u : Update) (k : ℕ) → k < length U → update_at (U ++ u ∷ []) k ≡ update_at U k
+pub update_before : (U : List Update) (u : Update) (k : ℕ) → k < length U → update_at (U ++ u ∷ []) k ≡ update_at U k
 update_before U u k lt = get_or_append_left U (u ∷ []) (record { packet = 0; key = zero_key; cell = 0; value = pos 0 }) k lt
 
 pub update_last : (U : List Update) (u : Update) → update_at (U ++ u ∷ []) (length U) ≡ u
@@ -135,7 +135,7 @@ pushes_refused r T U u S F h far =
     }
 
 -- a message of a later update isn't before
-before_later : (S : List Push) (m : Push) (k : ℕ) → k ≤ m.update → messages_before k (S ++ m ∷ []) ≡ messages_before k S
+pub before_later : (S : List Push) (m : Push) (k : ℕ) → k ≤ m.update → messages_before k (S ++ m ∷ []) ≡ messages_before k S
 before_later S m k le = filter_push_no (λ x. nat_lt x.update k) S m (grind arith)
 
 told_later : (r : Rules) (S : List Push) (m : Push) (k c : ℕ) → k ≤ m.update → told r (S ++ m ∷ []) k c ≡ told r S k c

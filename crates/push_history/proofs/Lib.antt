@@ -5,6 +5,7 @@ pub mod Telling
 pub mod Parts
 pub mod Sharing
 pub mod Folded
+pub mod Lawfuls
 pub mod Runs
 pub mod RoundRuns
 pub mod RoundSteps
