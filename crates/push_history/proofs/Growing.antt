@@ -212,3 +212,15 @@ pushes_sent r T U u S F m h far n cell amount =
       ];
       apart = λ k sent. apart_sent r T U S F m h n k (m.update == k) refl sent;
     }
+
+-- no update, no message
+pub pushes_none : (r : Rules) (T : ℕ) → ArePushes r T [] [] []
+pushes_none r T = record {
+  rising = λ k lt. absurd (omega (arith, lt));
+  amounts = λ k d lt. absurd (omega (arith, lt));
+  refused_rising = λ k lt. absurd (omega (arith, lt));
+  refused_within = λ k d lt. absurd (omega (arith, lt));
+  reached = λ k lt is. absurd (omega (arith, lt));
+  below = λ k lt is. absurd (omega (arith, lt));
+  apart = λ k sent. refl;
+}

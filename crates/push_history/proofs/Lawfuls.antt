@@ -13,7 +13,7 @@ use Rattle.push_history.specs.Whole.{whole_of}
 use Rattle.push_history.specs.Told.{told_of, messages_before}
 use Rattle.push_history.specs.Pushes.{is_sent, is_refused, ArePushes, IsNamed, LawfulPushes}
 use Rattle.push_history.proofs.Lists.{filter_kept, filter_push_no, last_or_before}
-use Rattle.push_history.proofs.Growing.{update_before, update_last, numbers_within, not_refused, refused_other, before_later, pushes_counted, pushes_refused, pushes_sent}
+use Rattle.push_history.proofs.Growing.{update_before, update_last, numbers_within, not_refused, refused_other, before_later, pushes_counted, pushes_refused, pushes_sent, pushes_none}
 
 named_before : (w : ℕ) (U : List Update) (u : Update) (m : Push) → m.update < length U → IsNamed w U m → IsNamed w (U ++ u ∷ []) m
 named_before w U u m within h = record {
@@ -81,3 +81,12 @@ lawful_sent r w T L full U u S F m h far worker packet number key cell amount =
           rw (before_later S m k (omega (arith, below, number))) (h.full_lane k is);
       waiting = h.waiting;
     }
+
+-- no update, no message
+pub lawful_none : (r : Rules) (w T L : ℕ) (full : Full) → LawfulPushes r w T L full [] [] []
+lawful_none r w T L full = record {
+  pushes = pushes_none r T;
+  named = λ k d lt. absurd (omega (arith, lt));
+  full_lane = λ k is. absurd (let no : false ≡ true = is in cc);
+  waiting = λ e. refl;
+}

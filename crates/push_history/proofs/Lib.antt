@@ -6,6 +6,7 @@ pub mod Parts
 pub mod Sharing
 pub mod Folded
 pub mod Lawfuls
+pub mod RunLaws
 pub mod Runs
 pub mod RoundRuns
 pub mod RoundSteps
