@@ -7,6 +7,7 @@ pub mod Sharing
 pub mod Folded
 pub mod Lawfuls
 pub mod RunLaws
+pub mod Conserved
 pub mod Runs
 pub mod RoundRuns
 pub mod RoundSteps

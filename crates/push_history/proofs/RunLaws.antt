@@ -2,7 +2,7 @@
 use Rattle.std.proofs.Common.{◌≡◌, ◌≢◌, ◌<◌, ◌≤◌, ℕ, zero, suc, ◌+◌, ◌-◌, ◌==◌, ℤ, pos, List, [], ◌∷◌, ◌++◌, length, get_or, set, take, drop, replicate, Bool, true, false, nat_lt, if◌then◌else◌, refl, sym, ap, ◌∙◌, subst, arith, inl, inr}
 use Rattle.std.specs.Prelude.{filter, fold, All, slice_set}
 use Rattle.std.proofs.lemmas.Bool.{cases_lt}
-use Rattle.std.proofs.lemmas.List.{append-nil, get_or-set_same, get_or-set_other, length-set, length-take, length-replicate, length_push, take_more, take-append-le, take_all}
+use Rattle.std.proofs.lemmas.List.{append-nil, get_or_past, get_or-set_same, get_or-set_other, length-set, length-take, length-replicate, length_push, take_more, take-append-le, take_all}
 use Rattle.std.proofs.lemmas.List.Elements.{All-nil, All-push, All-replicate, All-set}
 use Rattle.std.proofs.lemmas.List.Sums.{fold_push}
 use Rattle.hash_rows.specs.declared.options.Full.{Full}
@@ -13,7 +13,7 @@ use Rattle.hash_rows.specs.Rules.{Rules}
 use Rattle.push_history.specs.declared.event.Event.{Event}
 use Rattle.push_history.specs.declared.event.Event.TheVariants.{Update, Take, Publish, Ask}
 use Rattle.push_history.specs.declared.event.Reply.{Reply}
-use Rattle.push_history.specs.declared.event.Reply.TheVariants.{Counted, Over}
+use Rattle.push_history.specs.declared.event.Reply.TheVariants.{Counted, Empty, Over, Took}
 use Rattle.push_history.specs.Share.{zero_key}
 use Rattle.push_history.specs.Front.{messages_of, message_at}
 use Rattle.push_history.specs.LagRun.{Terms, Worker, State, updates_by, fresh_worker, worker_in, with_worker, message_of, meets_full, pushes, count_step, take_step, lag_step, lag_run, start}
@@ -221,3 +221,67 @@ folded_lawful t s w h inside some =
         let fails : (m.worker == v) ≡ false = ap (λ (n : ℕ). n == v) its ∙ other in
         filter_push_no (λ z. z.worker == v) s.folded m fails ∙ h.folded v lt
         ∙ ap (λ (z : Worker). take z.taken z.sent) (sym (get_or-set_other s.workers w v y fresh_worker ne))
+
+-- a worker that isn't there has nothing
+no_worker : (t : Terms) (s : State) (w : ℕ) → IsLawfulState t s → length t.updates ≤ w → worker_in s w ≡ fresh_worker
+no_worker t s w h past = get_or_past s.workers w fresh_worker (omega (arith, past, h.workers))
+
+take_by : (t : Terms) (s : State) (w : ℕ) → IsLawfulState t s → (b : Bool) → ((worker_in s w).taken == length (worker_in s w).sent) ≡ b
+    → IsLawfulState t (if◌then◌else◌ {A = State × Reply} b (s, Empty) (with_folded s w, Took (message_at (worker_in s w).sent (worker_in s w).taken).amount)).0
+take_by t s w h true none = h
+take_by t s w h false some = elim (cases_lt w (length t.updates)) [
+  | inl inside ↦ folded_lawful t s w h inside (let ne : (worker_in s w).taken ≢ length (worker_in s w).sent =
+      (λ e. let yes : ((worker_in s w).taken == length (worker_in s w).sent) ≡ true = grind arith in let no : true ≡ false = sym yes ∙ some in absurd (cc)) in
+      omega (arith, (h.each w inside).taken, ne))
+  | inr past ↦ absurd (let none : ((worker_in s w).taken == length (worker_in s w).sent) ≡ true = ap (λ (x : Worker). x.taken == length x.sent) (no_worker t s w h past) in
+      let no : true ≡ false = sym none ∙ some in cc)
+]
+
+-- each event keeps a state lawful
+pub step_lawful : (t : Terms) (s : State) (e : Event) → IsLawfulState t s → IsLawfulState t (lag_step t s e).0
+unfolding lag_step take_step
+step_lawful t s (Update w) h = update_lawful t s w h
+step_lawful t s (Take w) h = take_by t s w h ((worker_in s w).taken == length (worker_in s w).sent) refl
+step_lawful t s Publish h = record {
+  workers = h.workers;
+  each = h.each;
+  folded = h.folded;
+  of_workers = h.of_workers;
+  shown = omega arith;
+  seen = λ k d lt. omega (arith, h.seen k d lt, h.shown);
+}
+step_lawful t s (Ask q) h = record {
+  workers = h.workers;
+  each = h.each;
+  folded = h.folded;
+  of_workers = h.of_workers;
+  shown = h.shown;
+  seen = All-set (λ n. n ≤ s.shown) s.seen q s.shown (omega arith) h.seen;
+}
+
+fresh_is : (n w : ℕ) → get_or (replicate n fresh_worker) w fresh_worker ≡ fresh_worker
+fresh_is zero w = refl
+fresh_is (suc n) zero = refl
+fresh_is (suc n) (suc w) = fresh_is n w
+
+-- the first state is lawful
+pub start_lawful : (t : Terms) (readers : ℕ) → IsLawfulState t (start (length t.updates) readers)
+unfolding start
+start_lawful t readers = record {
+  workers = length-replicate (length t.updates) fresh_worker;
+  each = λ w lt. subst (λ (x : Worker). IsLawfulWorker t w x) (sym (fresh_is (length t.updates) w))
+      (record { counted = omega arith; lawful = lawful_none t.rules w t.threshold t.capacity t.full; taken = omega arith });
+  folded = λ w lt. ap (λ (x : Worker). take x.taken x.sent) (sym (fresh_is (length t.updates) w));
+  of_workers = All-nil (λ m. m.worker < length t.updates);
+  shown = omega arith;
+  seen = All-replicate (λ n. n ≤ 0) readers 0 (omega arith);
+}
+
+events_lawful : (t : Terms) (events : List Event) (s : State) → IsLawfulState t s → IsLawfulState t (fold (λ s e. (lag_step t s e).0) s events)
+events_lawful t [] s h = h
+events_lawful t (e ∷ es) s h = events_lawful t es (lag_step t s e).0 (step_lawful t s e h)
+
+-- each state of a run is lawful
+pub run_lawful : (t : Terms) (readers : ℕ) (events : List Event) → IsLawfulState t (lag_run t readers events)
+unfolding lag_run
+run_lawful t readers events = events_lawful t events (start (length t.updates) readers) (start_lawful t readers)
