@@ -1,5 +1,5 @@
 -- Nothing that was counted is lost: it is shown, folded, queued, or left as a residue.
-use Rattle.std.proofs.Common.{◌≡◌, ◌<◌, ◌≤◌, ℕ, ◌+◌, ◌==◌, ℤ, List, [], ◌∷◌, ◌++◌, length, take, drop, true, refl, sym, ap, ◌∙◌, subst, arith}
+use Rattle.std.proofs.Common.{◌≡◌, ◌<◌, ◌≤◌, ℕ, ◌==◌, ℤ, List, [], ◌∷◌, ◌++◌, length, take, drop, true, sym, ap, ◌∙◌, subst, arith}
 use Rattle.std.specs.Prelude.{filter, map, All}
 use Rattle.std.proofs.lemmas.List.{map-append, get_or_append_left, length-append, length-take, take-append-drop, take_all}
 use Rattle.std.proofs.lemmas.List.Elements.{All-filter, All-map, All-tail, All-take, filter-append}
@@ -7,21 +7,18 @@ use Rattle.hash_rows.specs.declared.shape.Update.{Update as Entry}
 use Rattle.hash_rows.specs.declared.shape.Push.{Push}
 use Rattle.hash_rows.specs.Rules.{Rules, AreLaws, AreValues}
 use Rattle.hash_rows.specs.Sequential.{joined_of}
-use Rattle.push_history.specs.declared.event.Event.{Event}
 use Rattle.push_history.specs.Front.{messages_of}
-use Rattle.push_history.specs.LagRun.{Terms, Worker, State, updates_by, worker_in, lag_run}
+use Rattle.push_history.specs.LagRun.{Terms, Worker, State, updates_by, worker_in}
 use Rattle.push_history.specs.LawfulRun.{IsLawfulWorker, IsLawfulState}
 use Rattle.push_history.specs.Pushes.{ArePushes}
 use Rattle.push_history.specs.Residue.{residue}
 use Rattle.push_history.specs.Told.{amounts_for, told_of, told}
 use Rattle.push_history.specs.Updates.{HoldValues}
 use Rattle.push_history.specs.Whole.{whole_of, whole}
-use Rattle.push_history.proofs.Growing.{told_all, whole_all, numbers_within}
+use Rattle.push_history.proofs.Growing.{told_all, numbers_within}
 use Rattle.push_history.proofs.Parts.{joined_append}
 use Rattle.push_history.proofs.Telling.{amounts_are_values}
 use Rattle.push_history.proofs.Telling.{whole_is as whole_is_told}
-use Rattle.push_history.proofs.RunLaws.{run_lawful}
-
 
 -- what two lists of messages tell
 told_append : (r : Rules) → AreLaws r → (cell : ℕ) (S T : List Push) → All (λ m. r.is_value m.amount ≡ true) S → All (λ m. r.is_value m.amount ≡ true) T
@@ -51,8 +48,8 @@ conserved_of r laws T U n S F shown folded queued cell values le h parts =
     ap (told_of r cell) parts
     ∙ told_append r laws cell (shown ++ folded) queued (first_all (shown ++ folded) queued (subst (λ (t : List Push). All (λ m. r.is_value m.amount ≡ true) t) parts all)) (second_all (shown ++ folded) queued (subst (λ (t : List Push). All (λ m. r.is_value m.amount ≡ true) t) parts all))
     ∙ ap (λ (z : ℤ). r.join z (told_of r cell queued))
-      (told_append r laws cell shown folded (first_all shown folded (first_all (shown ++ folded) queued (subst (λ (t : List Push). All (λ m. r.is_value m.amount ≡ true) t) parts all)))
-      (second_all shown folded (first_all (shown ++ folded) queued (subst (λ (t : List Push). All (λ m. r.is_value m.amount ≡ true) t) parts all)))) in
+    (told_append r laws cell shown folded (first_all shown folded (first_all (shown ++ folded) queued (subst (λ (t : List Push). All (λ m. r.is_value m.amount ≡ true) t) parts all)))
+    (second_all shown folded (first_all (shown ++ folded) queued (subst (λ (t : List Push). All (λ m. r.is_value m.amount ≡ true) t) parts all)))) in
     let whole_parts : whole_of r cell (take n V) ≡ r.join (told r S n cell) (r.gap (told r S n cell) (whole_of r cell (take n V))) = whole_is_told r laws T V S F some h n cell (omega (arith, len)) in
     ap (whole_of r cell) (sym again) ∙ whole_parts
     ∙ ap (λ (t : List Entry). r.join (told r S n cell) (r.gap (told r S n cell) (whole_of r cell t))) again
@@ -60,6 +57,7 @@ conserved_of r laws T U n S F shown folded queued cell values le h parts =
   where
     first_all : (xs ys : List Push) → All (λ m. r.is_value m.amount ≡ true) (xs ++ ys) → All (λ m. r.is_value m.amount ≡ true) xs
     first_all xs ys all = λ k d lt. subst (λ (m : Push). r.is_value m.amount ≡ true) (get_or_append_left xs ys d k lt) (all k d (omega (arith, lt, length-append xs ys)))
+
     second_all : (xs ys : List Push) → All (λ m. r.is_value m.amount ≡ true) (xs ++ ys) → All (λ m. r.is_value m.amount ≡ true) ys
     second_all [] ys all = all
     second_all (x ∷ xs) ys all = second_all xs ys (All-tail (λ m. r.is_value m.amount ≡ true) x (xs ++ ys) all)
@@ -68,7 +66,7 @@ conserved_of r laws T U n S F shown folded queued cell values le h parts =
 pub conserved : (t : Terms) → AreLaws t.rules → ((w : ℕ) → HoldValues t.rules (updates_by t w)) → (s : State) → IsLawfulState t s → (w cell : ℕ) → w < length t.updates
     → whole t.rules (updates_by t w) (worker_in s w).counted cell
     ≡ t.rules.join (t.rules.join (t.rules.join (told_of t.rules cell (messages_of w (take s.shown s.folded))) (told_of t.rules cell (messages_of w (drop s.shown s.folded))))
-      (told_of t.rules cell (drop (worker_in s w).taken (worker_in s w).sent))) (residue t.rules (updates_by t w) (worker_in s w).sent (worker_in s w).counted cell)
+    (told_of t.rules cell (drop (worker_in s w).taken (worker_in s w).sent))) (residue t.rules (updates_by t w) (worker_in s w).sent (worker_in s w).counted cell)
 conserved t laws values s h w cell inside =
     let x : Worker = worker_in s w in
     let lawful : IsLawfulWorker t w x = h.each w inside in

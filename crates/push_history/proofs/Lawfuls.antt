@@ -1,18 +1,18 @@
 -- Lawful pushes of a worker go on with each update, and so does each worker of a run.
-use Rattle.std.proofs.Common.{◌≡◌, ◌≢◌, ◌<◌, ◌≤◌, ℕ, ◌+◌, ◌-◌, ◌==◌, ◌||◌, ℤ, List, [], ◌∷◌, ◌++◌, length, take, Bool, true, false, nat_lt, refl, sym, ap, ◌∙◌, subst, arith, inl, inr}
-use Rattle.std.specs.Prelude.{filter, All}
+use Rattle.std.proofs.Common.{◌≡◌, ◌≢◌, ◌<◌, ◌≤◌, ℕ, ◌==◌, List, [], ◌∷◌, ◌++◌, length, Bool, true, false, nat_lt, refl, sym, ap, ◌∙◌, arith, inl, inr}
+use Rattle.std.specs.Prelude.{All}
 use Rattle.std.proofs.lemmas.Bool.{cases_lt}
 use Rattle.std.proofs.lemmas.List.Elements.{All-push}
 use Rattle.hash_rows.specs.declared.options.Full.{Full}
-use Rattle.hash_rows.specs.declared.options.Full.TheVariants.{Leave, Wait}
+use Rattle.hash_rows.specs.declared.options.Full.TheVariants.{Leave}
 use Rattle.hash_rows.specs.declared.shape.Update.{Update}
 use Rattle.hash_rows.specs.declared.shape.Push.{Push}
 use Rattle.hash_rows.specs.Rules.{Rules}
 use Rattle.push_history.specs.Updates.{update_at}
 use Rattle.push_history.specs.Whole.{whole_of}
 use Rattle.push_history.specs.Told.{told_of, messages_before}
-use Rattle.push_history.specs.Pushes.{is_sent, is_refused, ArePushes, IsNamed, LawfulPushes}
-use Rattle.push_history.proofs.Lists.{filter_kept, filter_push_no, last_or_before}
+use Rattle.push_history.specs.Pushes.{is_refused, IsNamed, LawfulPushes}
+use Rattle.push_history.proofs.Lists.{filter_kept}
 use Rattle.push_history.proofs.Growing.{update_before, update_last, numbers_within, not_refused, refused_other, before_later, pushes_counted, pushes_refused, pushes_sent, pushes_none}
 
 named_before : (w : ℕ) (U : List Update) (u : Update) (m : Push) → m.update < length U → IsNamed w U m → IsNamed w (U ++ u ∷ []) m

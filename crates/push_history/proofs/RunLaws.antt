@@ -1,10 +1,9 @@
 -- Each state of a run is lawful.
-use Rattle.std.proofs.Common.{◌≡◌, ◌≢◌, ◌<◌, ◌≤◌, ℕ, zero, suc, ◌+◌, ◌-◌, ◌==◌, ℤ, pos, List, [], ◌∷◌, ◌++◌, length, get_or, set, take, drop, replicate, Bool, true, false, nat_lt, if◌then◌else◌, refl, sym, ap, ◌∙◌, subst, arith, inl, inr}
-use Rattle.std.specs.Prelude.{filter, fold, All, slice_set}
+use Rattle.std.proofs.Common.{◌≡◌, ◌≢◌, ◌<◌, ◌≤◌, ℕ, zero, suc, ◌+◌, ◌-◌, ◌==◌, ℤ, pos, List, [], ◌∷◌, ◌++◌, length, get_or, take, replicate, Bool, true, false, nat_lt, if◌then◌else◌, refl, sym, ap, ◌∙◌, subst, arith, inl, inr}
+use Rattle.std.specs.Prelude.{fold, All, slice_set}
 use Rattle.std.proofs.lemmas.Bool.{cases_lt}
-use Rattle.std.proofs.lemmas.List.{append-nil, get_or_past, get_or-set_same, get_or-set_other, length-set, length-take, length-replicate, length_push, take_more, take-append-le, take_all}
+use Rattle.std.proofs.lemmas.List.{get_or_past, get_or-set_same, get_or-set_other, length-set, length-take, length-replicate, length_push, take_more, take-append-le}
 use Rattle.std.proofs.lemmas.List.Elements.{All-nil, All-push, All-replicate, All-set}
-use Rattle.std.proofs.lemmas.List.Sums.{fold_push}
 use Rattle.hash_rows.specs.declared.options.Full.{Full}
 use Rattle.hash_rows.specs.declared.options.Full.TheVariants.{Leave, Wait}
 use Rattle.hash_rows.specs.declared.shape.Update.{Update as Entry}
@@ -18,7 +17,7 @@ use Rattle.push_history.specs.Share.{zero_key}
 use Rattle.push_history.specs.Front.{messages_of, message_at}
 use Rattle.push_history.specs.LagRun.{Terms, Worker, State, updates_by, fresh_worker, worker_in, with_worker, message_of, meets_full, pushes, count_step, take_step, lag_step, lag_run, start}
 use Rattle.push_history.specs.LawfulRun.{IsLawfulWorker, IsLawfulState}
-use Rattle.push_history.specs.Pushes.{LawfulPushes, ArePushes, IsNamed, distance_at}
+use Rattle.push_history.specs.Pushes.{LawfulPushes, distance_at}
 use Rattle.push_history.specs.Told.{told, told_of}
 use Rattle.push_history.specs.Updates.{update_at}
 use Rattle.push_history.specs.Whole.{whole, whole_of}
@@ -97,7 +96,7 @@ room_by t w x h within far false none = full_by t w x t.full refl h within far (
 due_by : (t : Terms) (w : ℕ) (x : Worker) → IsLawfulWorker t w x → x.counted < length (updates_by t w)
     → (b : Bool) → nat_lt (distance_at t.rules (updates_by t w) x.sent x.counted) t.threshold ≡ b
     → IsLawfulWorker t w (if b then (record { counted = x.counted + 1; sent = x.sent; refused = x.refused; taken = x.taken }, Counted)
-      else if nat_lt (length x.sent - x.taken) t.capacity then pushes (message_of t.rules w (updates_by t w) x.sent x.counted) x else meets_full t.full x).0
+    else if nat_lt (length x.sent - x.taken) t.capacity then pushes (message_of t.rules w (updates_by t w) x.sent x.counted) x else meets_full t.full x).0
 due_by t w x h within true small = record {
   counted = omega (arith, within);
   lawful = next_counted t.rules w t.threshold t.capacity t.full (updates_by t w) x.counted x.sent x.refused h.lawful within (let below : distance_at t.rules (updates_by t w) x.sent x.counted < t.threshold = grind arith in below);
@@ -108,8 +107,8 @@ due_by t w x h within false due =
 
 left_by : (t : Terms) (w : ℕ) (x : Worker) → IsLawfulWorker t w x → (b : Bool) → (x.counted == length (updates_by t w)) ≡ b
     → IsLawfulWorker t w (if b then (x, Over)
-      else if nat_lt (distance_at t.rules (updates_by t w) x.sent x.counted) t.threshold then (record { counted = x.counted + 1; sent = x.sent; refused = x.refused; taken = x.taken }, Counted)
-      else if nat_lt (length x.sent - x.taken) t.capacity then pushes (message_of t.rules w (updates_by t w) x.sent x.counted) x else meets_full t.full x).0
+    else if nat_lt (distance_at t.rules (updates_by t w) x.sent x.counted) t.threshold then (record { counted = x.counted + 1; sent = x.sent; refused = x.refused; taken = x.taken }, Counted)
+    else if nat_lt (length x.sent - x.taken) t.capacity then pushes (message_of t.rules w (updates_by t w) x.sent x.counted) x else meets_full t.full x).0
 left_by t w x h true over = h
 left_by t w x h false left =
     due_by t w x h (let ne : x.counted ≢ length (updates_by t w) = (λ e. let yes : (x.counted == length (updates_by t w)) ≡ true = grind arith in let no : true ≡ false = sym yes ∙ left in absurd (cc)) in omega (arith, h.counted, ne))
@@ -138,16 +137,16 @@ keeps_taken t w x within =
     let U = updates_by t w in
     let room : (b : Bool) → KeepsTaken x (if b then pushes (message_of t.rules w U x.sent x.counted) x else meets_full t.full x).0 =
     λ b. elim b as (λ b. KeepsTaken x (if b then pushes (message_of t.rules w U x.sent x.counted) x else meets_full t.full x).0)
-      [ true ↦ record { count = refl; messages = take-append-le x.taken x.sent (message_of t.rules w U x.sent x.counted ∷ []) within } | false ↦ keeps_full t.full x ] in
+    [ true ↦ record { count = refl; messages = take-append-le x.taken x.sent (message_of t.rules w U x.sent x.counted ∷ []) within } | false ↦ keeps_full t.full x ] in
     let due : (b : Bool) → KeepsTaken x (if b then (record { counted = x.counted + 1; sent = x.sent; refused = x.refused; taken = x.taken }, Counted)
-      else if nat_lt (length x.sent - x.taken) t.capacity then pushes (message_of t.rules w U x.sent x.counted) x else meets_full t.full x).0 =
+    else if nat_lt (length x.sent - x.taken) t.capacity then pushes (message_of t.rules w U x.sent x.counted) x else meets_full t.full x).0 =
     λ b. elim b as (λ b. KeepsTaken x (if b then (record { counted = x.counted + 1; sent = x.sent; refused = x.refused; taken = x.taken }, Counted)
-      else if nat_lt (length x.sent - x.taken) t.capacity then pushes (message_of t.rules w U x.sent x.counted) x else meets_full t.full x).0)
-      [ true ↦ record { count = refl; messages = refl } | false ↦ room (nat_lt (length x.sent - x.taken) t.capacity) ] in
+    else if nat_lt (length x.sent - x.taken) t.capacity then pushes (message_of t.rules w U x.sent x.counted) x else meets_full t.full x).0)
+    [ true ↦ record { count = refl; messages = refl } | false ↦ room (nat_lt (length x.sent - x.taken) t.capacity) ] in
     elim (x.counted == length U) as (λ b. KeepsTaken x (if b then (x, Over)
-      else if nat_lt (distance_at t.rules U x.sent x.counted) t.threshold then (record { counted = x.counted + 1; sent = x.sent; refused = x.refused; taken = x.taken }, Counted)
-      else if nat_lt (length x.sent - x.taken) t.capacity then pushes (message_of t.rules w U x.sent x.counted) x else meets_full t.full x).0)
-      [ true ↦ keeps_same x | false ↦ due (nat_lt (distance_at t.rules U x.sent x.counted) t.threshold) ]
+    else if nat_lt (distance_at t.rules U x.sent x.counted) t.threshold then (record { counted = x.counted + 1; sent = x.sent; refused = x.refused; taken = x.taken }, Counted)
+    else if nat_lt (length x.sent - x.taken) t.capacity then pushes (message_of t.rules w U x.sent x.counted) x else meets_full t.full x).0)
+    [ true ↦ keeps_same x | false ↦ due (nat_lt (distance_at t.rules U x.sent x.counted) t.threshold) ]
 
 -- what stands at a place after another was put in
 put_by : (P : Worker → Type 0) (ws : List Worker) (w v : ℕ) (y : Worker) (b : Bool) → (w == v) ≡ b → v < length ws
@@ -168,9 +167,9 @@ update_lawful t s w h =
           (λ e. subst (λ (n : ℕ). IsLawfulWorker t n y) e (worker_counted t w (worker_in s w) (h.each w (omega (arith, e, lt))))) (h.each v lt);
       folded = λ v lt. put_by (λ x. messages_of v s.folded ≡ take x.taken x.sent) s.workers w v y (w == v) refl (omega (arith, lt, h.workers))
           (λ e. subst (λ (n : ℕ). messages_of n s.folded ≡ take y.taken y.sent) e
-            (let inside : w < length t.updates = omega (arith, e, lt) in
-            let kept : KeepsTaken (worker_in s w) y = keeps_taken t w (worker_in s w) (h.each w inside).taken in
-            h.folded w inside ∙ sym kept.messages ∙ ap (λ (n : ℕ). take n y.sent) (sym kept.count))) (h.folded v lt);
+          (let inside : w < length t.updates = omega (arith, e, lt) in
+          let kept : KeepsTaken (worker_in s w) y = keeps_taken t w (worker_in s w) (h.each w inside).taken in
+          h.folded w inside ∙ sym kept.messages ∙ ap (λ (n : ℕ). take n y.sent) (sym kept.count))) (h.folded v lt);
       of_workers = h.of_workers;
       shown = h.shown;
       seen = h.seen;
@@ -211,7 +210,7 @@ folded_lawful t s w h inside some =
         let passes : (m.worker == v) ≡ true = (let e' : m.worker ≡ v = its ∙ e in grind arith) in
         filter_push_yes (λ z. z.worker == v) s.folded m passes
         ∙ subst (λ (n : ℕ). messages_of n s.folded ++ m ∷ [] ≡ take y.taken y.sent) e
-          (ap (λ z. z ++ m ∷ []) (h.folded w inside) ∙ sym (take_more x.sent x.taken (record { worker = 0; packet = 0; update = 0; key = zero_key; cell = 0; amount = pos 0 }) some))
+        (ap (λ z. z ++ m ∷ []) (h.folded w inside) ∙ sym (take_more x.sent x.taken (record { worker = 0; packet = 0; update = 0; key = zero_key; cell = 0; amount = pos 0 }) some))
         ∙ ap (λ (z : Worker). take z.taken z.sent) (sym (ap (λ (n : ℕ). get_or (slice_set s.workers w y) n fresh_worker) (sym e) ∙ get_or-set_same s.workers w y fresh_worker (omega (arith, inside, h.workers))))
     folded_at v lt false other its =
         let x : Worker = worker_in s w in

@@ -295,4 +295,4 @@ amounts_are_values r laws T U S F values h = λ k d lt.
     let was = told_behind r laws T U S F values h m.update m.cell (omega (arith, tells.within)) in
     ap r.is_value tells.amount
     ∙ laws.gap_value (told r S m.update m.cell) (whole r U (m.update + 1) m.cell) was.told_is
-      (whole_value r laws m.cell (take (m.update + 1) U) (All-take (λ u. r.is_value u.value ≡ true) (m.update + 1) U values))
+    (whole_value r laws m.cell (take (m.update + 1) U) (All-take (λ u. r.is_value u.value ≡ true) (m.update + 1) U values))

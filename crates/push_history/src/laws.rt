@@ -81,5 +81,5 @@ pub fn nothing_is_lost()
         let folded = told_of t.rules cell (messages_of w (drop s.shown s.folded)) in
         let queued = told_of t.rules cell (drop x.taken x.sent) in
         whole t.rules (updates_by t w) x.counted cell
-            ≡ t.rules.join (t.rules.join (t.rules.join shown folded) queued) (residue t.rules (updates_by t w) x.sent x.counted cell) }
+        ≡ t.rules.join (t.rules.join (t.rules.join shown folded) queued) (residue t.rules (updates_by t w) x.sent x.counted cell) }
 {}
