@@ -71,7 +71,7 @@ steps_le q p H (suc k) le implies =
     let here = one_if_le (q (take k H) (message_at H k)) (p (take k H) (message_at H k)) (implies k (omega (arith, le))) in
     omega (arith, before, here)
 
-flat_none : {X : Type 0} (ws : List ℕ) → flat_map (λ w. [] {A = X}) ws ≡ []
+flat_none : {X : Type 0} (ws : List ℕ) → flat_map {X = ℕ} {A = X} (λ w. []) ws ≡ []
 flat_none [] = refl
 flat_none (w ∷ ws) = flat_none ws
 

@@ -8,6 +8,7 @@ pub mod Folded
 pub mod Lawfuls
 pub mod RunLaws
 pub mod Conserved
+pub mod Notes
 pub mod Runs
 pub mod RoundRuns
 pub mod RoundSteps
