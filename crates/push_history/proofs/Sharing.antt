@@ -51,7 +51,7 @@ range_more n =
     sym (map-id (range_with_len 0 (n + 1))) ∙ map-range_with_len_more (λ x. x) 0 n n (omega arith) ∙ ap (λ t. t ++ n ∷ []) (map-id (range_with_len 0 n))
 
 -- going over a list by its places
-by_places : {X Y : Type 0} (f : X → List Y) (xs : List X) (d : X) (n : ℕ) → n ≤ length xs → flat_map f (take n xs) ≡ flat_map (λ i. f (get_or xs i d)) (range_with_len 0 n)
+pub by_places : {X Y : Type 0} (f : X → List Y) (xs : List X) (d : X) (n : ℕ) → n ≤ length xs → flat_map f (take n xs) ≡ flat_map (λ i. f (get_or xs i d)) (range_with_len 0 n)
 by_places f xs d zero le = refl
 by_places {X} {Y} f xs d (suc n) le =
     let next : suc n ≡ n + 1 = omega arith in

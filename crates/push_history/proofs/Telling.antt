@@ -1,6 +1,7 @@
 -- What is told before each update, and what is left.
 use Rattle.std.proofs.Common.{◌≡◌, ◌<◌, ◌≤◌, ℕ, zero, suc, ◌+◌, ◌-◌, ◌==◌, ◌||◌, ℤ, pos, List, [], ◌∷◌, ◌++◌, length, get_or, take, Bool, true, false, if◌then◌else◌, nat_lt, refl, sym, ap, ◌∙◌, subst, arith, inl, inr}
-use Rattle.std.specs.Prelude.{map}
+use Rattle.std.specs.Prelude.{All, map}
+use Rattle.std.proofs.lemmas.List.Elements.{All-take}
 use Rattle.std.specs.List.Sorted.{IsStrictlyIncreasing}
 use Rattle.std.proofs.lemmas.Bool.{cases_lt}
 use Rattle.std.proofs.lemmas.List.{get_or-map, length-map, take_more}
@@ -16,7 +17,7 @@ use Rattle.push_history.specs.Residue.{residue, residue_size}
 use Rattle.push_history.specs.Front.{message_at, upto_of}
 use Rattle.push_history.specs.Pushes.{is_sent, is_refused, distance_at, TellsAll, ArePushes}
 use Rattle.push_history.proofs.Lists.{filter_front, filter_same, each_fails, some_passes}
-use Rattle.push_history.proofs.Joins.{whole_push, told_push}
+use Rattle.push_history.proofs.Joins.{whole_push, told_push, whole_value}
 
 -- no message: what a list shows past its end
 no_push : Push
@@ -284,3 +285,14 @@ large_refused r laws T U S F values h some (suc m) cell le far =
     let far' : T ≤ residue_size r U S (m + 1) cell = subst (λ (n : ℕ). T ≤ residue_size r U S n cell) next far in
     subst (λ (n : ℕ). LastRefused U F n cell) (sym next)
     (large_by r laws T U S F values h some m cell (omega (arith, le)) far' (λ earlier. large_refused r laws T U S F values h some m cell (omega (arith, le)) earlier) ((update_at U m).cell == cell) refl)
+
+-- what messages tell are values
+pub amounts_are_values : (r : Rules) → AreLaws r → (T : ℕ) (U : List Update) (S : List Push) (F : List ℕ) → HoldValues r U → ArePushes r T U S F → All (λ m. r.is_value m.amount ≡ true) S
+unfolding whole
+amounts_are_values r laws T U S F values h = λ k d lt.
+    let m : Push = get_or S k d in
+    let tells : TellsAll r U S m = h.amounts k d lt in
+    let was = told_behind r laws T U S F values h m.update m.cell (omega (arith, tells.within)) in
+    ap r.is_value tells.amount
+    ∙ laws.gap_value (told r S m.update m.cell) (whole r U (m.update + 1) m.cell) was.told_is
+    (whole_value r laws m.cell (take (m.update + 1) U) (All-take (λ u. r.is_value u.value ≡ true) (m.update + 1) U values))
