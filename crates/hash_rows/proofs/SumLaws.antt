@@ -1,14 +1,14 @@
 -- The laws of the kinds that join by sums modulo 2 ^ 64.
-use Rattle.std.proofs.Common.{◌≡◌, ◌<◌, ◌≤◌, ◌^◌, ℕ, ℤ, pos, negsuc, ◌+ℤ◌, ◌-ℤ◌, ◌≤ℤ◌, Bool, true, false, Option, Some, None, nat_le, if◌then◌else◌, List, refl, sym, ap, subst, ◌∙◌, arith}
-use Rattle.std.specs.Int.{int_wrap, int_wrapping_add, int_wrapping_sub, int_wrapping_neg, w64}
+use Rattle.std.proofs.Common.{◌≡◌, ◌<◌, ◌≤◌, ◌^◌, ℕ, ℤ, pos, negsuc, ◌+ℤ◌, ◌-ℤ◌, ◌≤ℤ◌, Bool, true, false, Some, nat_le, if◌then◌else◌, List, refl, sym, ap, subst, ◌∙◌, arith}
+use Rattle.std.specs.Int.{int_wrap, int_wrapping_neg, w64}
 use Rattle.std.specs.Prelude.{FitsSigned, unsigned_abs, neg_ℤ, nat_lt}
 use Rattle.std.proofs.lemmas.Int.{wrapping_add_is, wrapping_neg_is, wrapping_sub_is, int_wrap-add_left, int_wrap-add_right, int_wrap_fits, SFits-int_wrap, ints}
 use Rattle.packet_key.specs.declared.key.FlowKey.{FlowKey}
 use Rattle.hash_rows.specs.declared.shape.Shape.{Shape}
 use Rattle.hash_rows.specs.declared.shape.Packet.{Packet}
 use Rattle.hash_rows.specs.Hash.{row_hash_of}
-use Rattle.hash_rows.specs.Rules.{Rules, AreLaws, sums}
-use Rattle.hash_rows.specs.Sketches.{is_sum, sum_join, sum_gap, sum_distance, sum_small, small_gap, signed_in_row, count_min_value, count_min_estimate, count_sketch_value, count_sketch_estimate}
+use Rattle.hash_rows.specs.Rules.{AreLaws, sums}
+use Rattle.hash_rows.specs.Sketches.{is_sum, sum_join, sum_gap, small_gap, signed_in_row, count_min_value, count_min_estimate, count_sketch_value, count_sketch_estimate}
 
 -- a number of 64 bits, as the library says it
 pub fits_sum : (a : ℤ) → is_sum a ≡ true → FitsSigned w64 a
