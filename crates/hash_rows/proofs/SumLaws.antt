@@ -89,7 +89,7 @@ amount_sum : (n : ℕ) → n < 2 ^ 32 → is_sum (pos n) ≡ true
 amount_sum n small = grind arith
 
 signed_sum : (key : FlowKey) (row n : ℕ) → n < 2 ^ 32 → is_sum (signed_in_row key row (pos n)) ≡ true
-signed_sum key row n small = by_test (nat_lt (row_hash_of key row) 9223372036854775808) where
+signed_sum key row n small = by_test (nat_lt (row_hash_of key row) (2 ^ 63)) where
   by_test : (test : Bool) → is_sum (if test then pos n else int_wrapping_neg w64 (pos n)) ≡ true
   by_test true = amount_sum n small
   by_test false = ap is_sum (wrapping_neg_is w64 (pos n) (fits_sum (pos n) (amount_sum n small))) ∙ sum_fits _ (SFits-int_wrap w64 (neg_ℤ (pos n)))
