@@ -1,5 +1,5 @@
 -- Count-Min is never below: each cell of a key is at least what the key's packets amount to.
-use Rattle.std.proofs.Common.{◌≡◌, ◌<◌, ◌≤◌, ◌+◌, ◌*◌, ◌/◌, ◌^◌, ◌≤ℤ◌, ◌+ℤ◌, ◌==◌, ◌++◌, ℕ, ℤ, pos, negsuc, zero, suc, Bool, true, false, cond, inl, inr, List, [], ◌∷◌, length, map, filter, fold, get_or, refl, sym, ap, ap₂, subst, ◌∙◌, arith}
+use Rattle.std.proofs.Common.{◌≡◌, ◌<◌, ◌≤◌, ◌+◌, ◌*◌, ◌/◌, ◌^◌, ◌≤ℤ◌, ◌+ℤ◌, ◌==◌, ℕ, ℤ, pos, zero, suc, Bool, true, false, cond, inl, inr, List, [], ◌∷◌, length, map, filter, fold, refl, sym, ap, subst, ◌∙◌, arith}
 use Rattle.std.specs.Prelude.{sum_by, if◌then◌else◌}
 use Rattle.std.specs.Int.{int_min, int_wrap, w64}
 use Rattle.std.specs.List.{flat_map, range_with_len}
@@ -13,7 +13,7 @@ use Rattle.hash_rows.specs.declared.shape.Shape.{Shape}
 use Rattle.hash_rows.specs.declared.shape.Packet.{Packet}
 use Rattle.hash_rows.specs.Amounts.{key_amount, total_amount}
 use Rattle.hash_rows.specs.Keys.{same_key}
-use Rattle.hash_rows.specs.Rules.{Rules, sums}
+use Rattle.hash_rows.specs.Rules.{sums}
 use Rattle.hash_rows.specs.Sequential.{packet_values, cell_values, sequential, sequential_table}
 use Rattle.hash_rows.specs.Shapes.{IsShape, place_of, size_of}
 use Rattle.hash_rows.specs.Sketches.{is_sum, least_of, sum_join, count_min_value, count_min_estimate, key_cells, rows_of}
@@ -75,8 +75,8 @@ once_at_most test only says a (suc n) = by_test (test a) refl (once_at_most test
   by_test true here rest =
       let past : only < a + 1 = omega (arith, says a here) in
       let one : length (filter test (range_with_len a (suc n))) ≡ 1 =
-          ap length (ap (λ b. cond b (a ∷ filter test (range_with_len (a + 1) n)) (filter test (range_with_len (a + 1) n))) here
-          ∙ ap (λ xs. a ∷ xs) (none_above test only says (a + 1) n past)) in
+      ap length (ap (λ b. cond b (a ∷ filter test (range_with_len (a + 1) n)) (filter test (range_with_len (a + 1) n))) here
+      ∙ ap (λ xs. a ∷ xs) (none_above test only says (a + 1) n past)) in
       omega arith
   by_test false here rest =
       subst (λ b. length (cond b (a ∷ filter test (range_with_len (a + 1) n)) (filter test (range_with_len (a + 1) n))) ≤ 1) (sym here) rest
@@ -86,13 +86,13 @@ once_at_least : (test : ℕ → Bool) (row : ℕ) → test row ≡ true → (a n
 once_at_least test row here a zero from to = absurd (omega arith)
 once_at_least test row here a (suc n) from to =
     by_test (test a) refl (λ later within. once_at_least test row here (a + 1) n later within) where
-  by_test : (b : Bool) → test a ≡ b → (a + 1 ≤ row → row < a + 1 + n → 1 ≤ length (filter test (range_with_len (a + 1) n)))
-      → 1 ≤ length (cond b (a ∷ filter test (range_with_len (a + 1) n)) (filter test (range_with_len (a + 1) n)))
-  by_test true at_a rest = omega arith
-  by_test false not_a rest = elim (eq-or-lt_of_le from) [
-      inl same ↦ absurd (true≢false (sym here ∙ ap test (sym same) ∙ not_a))
-    | inr later ↦ rest (omega arith) (omega arith)
-    ]
+      by_test : (b : Bool) → test a ≡ b → (a + 1 ≤ row → row < a + 1 + n → 1 ≤ length (filter test (range_with_len (a + 1) n)))
+          → 1 ≤ length (cond b (a ∷ filter test (range_with_len (a + 1) n)) (filter test (range_with_len (a + 1) n)))
+      by_test true at_a rest = omega arith
+      by_test false not_a rest = elim (eq-or-lt_of_le from) [
+        | inl same ↦ absurd (true≢false (sym here ∙ ap test (sym same) ∙ not_a))
+        | inr later ↦ rest (omega arith) (omega arith)
+      ]
 
 -- the least of numbers that are at least b
 least_at_least : (b : ℤ) (f : ℕ → ℤ) (x : ℤ) (a n : ℕ) → b ≤ℤ x → ((row : ℕ) → a ≤ row → row < a + n → b ≤ℤ f row)
@@ -100,7 +100,7 @@ least_at_least : (b : ℤ) (f : ℕ → ℤ) (x : ℤ) (a n : ℕ) → b ≤ℤ 
 least_at_least b f x a zero here rest = here
 least_at_least b f x a (suc n) here rest =
     least_at_least b f (int_min x (f a)) (a + 1) n (omega (arith, ints, clamps, here, rest a (omega arith) (omega arith)))
-      (λ row from to. rest row (omega arith) (omega arith))
+    (λ row from to. rest row (omega arith) (omega arith))
 
 least_of_rows : (b : ℤ) (f : ℕ → ℤ) (n : ℕ) → 0 < n → ((row : ℕ) → row < n → b ≤ℤ f row) → b ≤ℤ least_of (map f (range_with_len 0 n))
 least_of_rows b f zero some each = absurd (omega arith)
@@ -113,7 +113,7 @@ unfolding added rows_at
 added_most shape lawful cell p =
     let test : ℕ → Bool = λ row. place_of shape p.key row == cell in
     let says : (row : ℕ) → test row ≡ true → row ≡ cell / shape.columns =
-        λ row here. sym (row_of_place shape lawful p.key row) ∙ ap (λ c. c / shape.columns) (eqb-true (place_of shape p.key row) cell here) in
+    λ row here. sym (row_of_place shape lawful p.key row) ∙ ap (λ c. c / shape.columns) (eqb-true (place_of shape p.key row) cell here) in
     let once = mul-le-mul_left p.amount (once_at_most test (cell / shape.columns) says 0 shape.rows) in
     omega arith
 
@@ -136,9 +136,9 @@ unfolding key_amount total_amount sequential cell_values
 cell_at_least shape lawful packets key row within total =
     let cell = place_of shape key row in
     let most : sum_by (added shape cell) packets ≤ sum_by (λ p. p.amount) packets =
-        sum_by-le-sum_by (added shape cell) (λ p. p.amount) packets (added_most shape lawful cell) in
+    sum_by-le-sum_by (added shape cell) (λ p. p.amount) packets (added_most shape lawful cell) in
     let least : key_amount packets key ≤ sum_by (added shape cell) packets =
-        sum_by-le-sum_by (λ p. if same_key p.key key then p.amount else 0) (added shape cell) packets (added_least shape key row within) in
+    sum_by-le-sum_by (λ p. if same_key p.key key then p.amount else 0) (added shape cell) packets (added_least shape key row within) in
     let whole = packets_joined shape cell packets 0 (omega arith) in
     subst (λ x. pos (key_amount packets key) ≤ℤ x) (sym whole) (omega (arith, ints))
 
@@ -149,8 +149,8 @@ never_below shape lawful packets key total =
     let rules = sums count_min_value count_min_estimate in
     let cells = map (sequential rules shape packets) (range_with_len 0 (size_of shape)) in
     let each : (row : ℕ) → row < shape.rows → pos (key_amount packets key) ≤ℤ value_at cells (place_of shape key row) = λ row within.
-        let place = place_within shape lawful key row within in
-        subst (λ x. pos (key_amount packets key) ≤ℤ x)
-          (sym (get_or-map-range_with_len (sequential rules shape packets) 0 (size_of shape) (place_of shape key row) (place_of shape key row) (pos 0) place (omega arith)))
-          (cell_at_least shape lawful packets key row within total) in
+    let place = place_within shape lawful key row within in
+    subst (λ x. pos (key_amount packets key) ≤ℤ x)
+    (sym (get_or-map-range_with_len (sequential rules shape packets) 0 (size_of shape) (place_of shape key row) (place_of shape key row) (pos 0) place (omega arith)))
+    (cell_at_least shape lawful packets key row within total) in
     least_of_rows (pos (key_amount packets key)) (λ row. value_at cells (place_of shape key row)) shape.rows (omega (arith, lawful.some_rows)) each

@@ -14,5 +14,4 @@ ghost use Rattle.packet_key.specs.declared.key.FlowKey.{FlowKey};
 pub fn count_min_is_never_below()
     ensures { (shape : Shape) (packets : List Packet) (key : FlowKey) → IsShape shape → total_amount packets < 2 ^ 63 →
         pos (key_amount packets key) ≤ℤ count_min_estimate shape (sequential_table (sums count_min_value count_min_estimate) shape packets).cells key }
-{
-}
+{}

@@ -1,5 +1,5 @@
 -- Keys that `==` finds equal are one.
-use Rattle.std.proofs.Common.{◌≡◌, ℕ, Bool, true, List, ◌&&◌, ◌==◌}
+use Rattle.std.proofs.Common.{◌≡◌, ℕ, true, ◌&&◌, ◌==◌}
 use Rattle.std.specs.Str.{bytes_eq}
 use Rattle.std.proofs.lemmas.Bool.{and_parts, eqb-true}
 use Rattle.std.proofs.lemmas.Slice.Eq.{bytes_eq-Decides}

@@ -1,5 +1,5 @@
 -- What a private register stands for: the laws of a kind on held values.
-use Rattle.std.proofs.Common.{◌≡◌, ◌≤◌, ◌+◌, ◌/◌, ◌%◌, ℕ, ℤ, pos, true, Option, Some, refl, sym, ap₂, subst, ◌∙◌, arith}
+use Rattle.std.proofs.Common.{◌≡◌, ◌≤◌, ◌+◌, ◌/◌, ◌%◌, ℕ, ℤ, pos, true, Some, refl, sym, ap₂, subst, arith}
 use Rattle.std.specs.Prelude.{unsigned_abs, int_le}
 use Rattle.hash_rows.specs.Sketches.{is_rank, rank_small}
 use Rattle.hash_rows.proofs.RankLaws.{ranks_are, ranks_back}
