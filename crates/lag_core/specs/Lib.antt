@@ -1,0 +1,3 @@
+pub mod Lanes
+pub mod Sights
+pub mod Workers

@@ -1,0 +1,71 @@
+ghost use Rattle.std.specs.Prelude.{◌≡◌, ◌<◌, ◌≤◌, length, None};
+ghost use Rattle.hash_rows.specs.declared.options.Full.{Full};
+ghost use Rattle.push_history.specs.LagRun.{Terms, Worker, count_step, updates_by};
+ghost use Rattle.lag_core.specs.Workers.{CanCount, IsWorkerAt};
+
+use crate::lane::Lane;
+use hash_rows::{Full, Kind, Push, Update};
+use listed::Listed;
+use push_history::Reply;
+use push_rule::Private;
+
+/// The updates of a worker.
+pub type UpdateList = Listed<Update>;
+
+/// One list of updates for each worker.
+pub type UpdateRows = Listed<UpdateList>;
+
+/// Takes up the worker's next update.
+pub fn take_up<K: Kind>(
+    worker: u32,
+    updates: &UpdateList,
+    sketch: &mut Private<K>,
+    lane: &mut Lane,
+    full: Full,
+) -> Reply
+    requires { CanCount K.rules updates.now.items sketch.old }
+    ensures can_count { CanCount K.rules updates.now.items sketch.new }
+    ensures stands { (t : Terms) (s : Worker) → t.rules ≡ K.rules → t.full ≡ full → updates_by t worker ≡ updates.now.items
+        → IsWorkerAt K.stands t worker sketch.old lane.old s
+        → IsWorkerAt K.stands t worker sketch.new lane.new (count_step t worker s).0 × (result ≡ (count_step t worker s).1) }
+    ensures cells { length sketch.new.held ≡ length sketch.old.held }
+{
+    let next = sketch.counted();
+    if next >= updates.len() {
+        return Reply::Over;
+    }
+    let update = *updates.get(next);
+    if full == Full::Wait && lane.is_full() && sketch.due_with(update.cell, update.value) {
+        return Reply::Waits;
+    }
+    count_next(worker, next, &update, sketch, lane)
+}
+
+// Counts the update, and sends the push that it makes due, unless the lane is full.
+fn count_next<K: Kind>(
+    worker: u32,
+    next: u32,
+    update: &Update,
+    sketch: &mut Private<K>,
+    lane: &mut Lane,
+) -> Reply {
+    match sketch.count(update.cell, update.value) {
+        None => Reply::Counted,
+        Some(_) if lane.is_full() => {
+            sketch.refused();
+            Reply::Refused
+        }
+        Some(amount) => {
+            sketch.sent();
+            lane.push(Push {
+                worker,
+                packet: update.packet,
+                update: next,
+                key: update.key,
+                cell: update.cell,
+                amount,
+            });
+            Reply::Pushed { amount }
+        }
+    }
+}
