@@ -12,6 +12,16 @@ use Rattle.push_history.specs.Updates.{HoldValues}
 use Rattle.push_rule.specs.Stands.{Sketch, StandsFor}
 use Rattle.lag_core.specs.Lanes.{Queue}
 
+-- what a run is of, besides the kind of sketch
+pub record Limits : Type 0 where
+  pub threshold : ℕ
+  pub capacity : ℕ
+  pub full : Full
+  pub updates : List (List Update)
+
+abbrev pub terms_of : Rules → Limits → Terms
+terms_of r l = record { rules = r; threshold = l.threshold; capacity = l.capacity; full = l.full; updates = l.updates }
+
 -- the sketch can count these updates: nothing is due, there is room for all, and each is of a cell and has a value of the kind
 pub record CanCount {Held : Type 0} (r : Rules) (updates : List Update) (p : Sketch Held) : Type 0 where
   pub idle : p.due ≡ None

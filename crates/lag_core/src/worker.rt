@@ -1,7 +1,10 @@
-ghost use Rattle.std.specs.Prelude.{◌≡◌, ◌<◌, ◌≤◌, length, None};
+ghost use Rattle.std.specs.Prelude.{◌≡◌, ◌<◌, ◌≤◌, ◌+◌, length, None, true};
 ghost use Rattle.hash_rows.specs.declared.options.Full.{Full};
-ghost use Rattle.push_history.specs.LagRun.{Terms, Worker, count_step, updates_by};
-ghost use Rattle.lag_core.specs.Workers.{CanCount, IsWorkerAt};
+ghost use Rattle.hash_rows.specs.declared.options.Full.TheVariants.{Wait};
+ghost use Rattle.push_history.specs.LagRun.{Worker, count_step, updates_by};
+ghost use Rattle.push_history.specs.Pushes.{distance_at};
+ghost use Rattle.push_history.specs.Updates.{update_at};
+ghost use Rattle.lag_core.specs.Workers.{CanCount, IsWorkerAt, Limits, terms_of};
 
 use crate::lane::Lane;
 use hash_rows::{Full, Kind, Push, Update};
@@ -25,9 +28,10 @@ pub fn take_up<K: Kind>(
 ) -> Reply
     requires { CanCount K.rules updates.now.items sketch.old }
     ensures can_count { CanCount K.rules updates.now.items sketch.new }
-    ensures stands { (t : Terms) (s : Worker) → t.rules ≡ K.rules → t.full ≡ full → updates_by t worker ≡ updates.now.items
-        → IsWorkerAt K.stands t worker sketch.old lane.old s
-        → IsWorkerAt K.stands t worker sketch.new lane.new (count_step t worker s).0 × (result ≡ (count_step t worker s).1) }
+    ensures stands { (l : Limits) (s : Worker) → let t = terms_of K.rules l in
+        l.full ≡ full → updates_by t worker ≡ updates.now.items →
+        IsWorkerAt K.stands t worker sketch.old lane.old s →
+        IsWorkerAt K.stands t worker sketch.new lane.new (count_step t worker s).0 × (result ≡ (count_step t worker s).1) }
     ensures cells { length sketch.new.held ≡ length sketch.old.held }
 {
     let next = sketch.counted();
@@ -48,7 +52,21 @@ fn count_next<K: Kind>(
     update: &Update,
     sketch: &mut Private<K>,
     lane: &mut Lane,
-) -> Reply {
+) -> Reply
+    requires idle { sketch.old.due ≡ None }
+    requires room { sketch.old.counted < sketch.old.room }
+    requires cell { update.now.cell < length sketch.old.held }
+    requires value { K.rules.is_value update.now.value ≡ true }
+    ensures idle { sketch.new.due ≡ None }
+    ensures counted { sketch.new.counted ≡ sketch.old.counted + 1 }
+    ensures room { sketch.new.room ≡ sketch.old.room }
+    ensures cells { length sketch.new.held ≡ length sketch.old.held }
+    ensures stands { (l : Limits) (s : Worker) → let t = terms_of K.rules l in
+        s.counted < length (updates_by t worker) → update.now ≡ update_at (updates_by t worker) s.counted → next ≡ s.counted →
+        (l.full ≡ Wait → lane.old.capacity ≤ length lane.old.messages → distance_at t.rules (updates_by t worker) s.sent s.counted < l.threshold) →
+        IsWorkerAt K.stands t worker sketch.old lane.old s →
+        IsWorkerAt K.stands t worker sketch.new lane.new (count_step t worker s).0 × (result ≡ (count_step t worker s).1) }
+{
     match sketch.count(update.cell, update.value) {
         None => Reply::Counted,
         Some(_) if lane.is_full() => {
