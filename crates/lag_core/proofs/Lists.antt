@@ -1,6 +1,7 @@
 -- Lists with one item more, and lists that are made from a function of the place.
 use Rattle.std.proofs.Common.{◌≡◌, ◌≢◌, ℕ, zero, suc, ◌+◌, ◌<◌, ◌≤◌, ◌==◌, Bool, true, false, cond, List, [], ◌∷◌, ◌++◌, length, map, get_or, set, fold, filter, take, refl, sym, ap, ◌∙◌, arith, subst}
 use Rattle.std.proofs.Common.{slice_get, Some, None}
+use Rattle.std.specs.Prelude.{All}
 use Rattle.std.specs.List.{range_with_len}
 use Rattle.std.proofs.lemmas.List.{append-nil, length-set, get_or-set_same, get_or-set_other}
 use Rattle.std.proofs.lemmas.List.Elements.{filter-append}
@@ -61,3 +62,7 @@ pub slot_below : {A : Type 0} (xs : List A) (i : ℕ) (x : A) → slice_get xs i
 slot_below [] i x at = cc
 slot_below (y ∷ ys) zero x at = omega arith
 slot_below (y ∷ ys) (suc i) x at = let h = slot_below ys i x at in omega (arith, h)
+
+-- what holds of each item holds of the one that stands at a place
+pub all_slot : {A : Type 0} (P : A → Type 0) (xs : List A) (i : ℕ) (x : A) → All P xs → slice_get xs i ≡ Some x → P x
+all_slot P xs i x all at = subst P (slot_value xs i x x at) (all i x (slot_below xs i x at))

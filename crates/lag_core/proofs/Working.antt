@@ -26,7 +26,7 @@ use Rattle.push_history.proofs.Joins.{told_value, whole_value}
 use Rattle.push_rule.specs.Stands.{Sketch, StandsFor}
 use Rattle.push_rule.proofs.Standing.{whole_own}
 use Rattle.lag_core.specs.Lanes.{Queue}
-use Rattle.lag_core.specs.Workers.{CanCount, IsWorkerAt}
+use Rattle.lag_core.specs.Workers.{CanCount, IsWorkerAt, distance_with}
 
 -- one update more
 updates_more : (U : List Entry) (n : ℕ) → n < length U → take (n + 1) U ≡ take n U ++ update_at U n ∷ []
@@ -369,3 +369,32 @@ module _ {H : Type 0} (stands : H → ℤ → ℤ → Type 0) (t : Terms) (w : �
                 } ∷ []) s.refused) entry_is now)) in
           (subst (λ z. IsWorkerAt stands t w q queue z) (sym (ap (λ z. z.0) step)) after,
            ap (λ (x : Push). Pushed x.amount) made ∙ sym (ap (λ z. z.1) step))
+
+-- nothing is left
+module _ {H : Type 0} (stands : H → ℤ → ℤ → Type 0) (t : Terms) (w : ℕ) (p : Sketch H) (lane : Queue) (s : Worker) (h : IsWorkerAt stands t w p lane s) where
+  pub its_count : p.counted ≡ s.counted
+  its_count = h.sketch.all_counted ∙ length-take-le s.counted (updates_by t w) h.within
+
+  pub step_over : length (updates_by t w) ≤ p.counted → IsWorkerAt stands t w p lane (count_step t w s).0 × (Over ≡ (count_step t w s).1)
+  step_over all =
+      let end : s.counted ≡ length (updates_by t w) = omega (arith, all, its_count, h.within) in
+      let step = count_over t w s end in
+      (subst (λ z. IsWorkerAt stands t w p lane z) (sym (ap (λ z. z.0) step)) h, sym (ap (λ z. z.1) step))
+
+  -- the push waits
+  pub step_waits : (u : Entry) → u ≡ update_at (updates_by t w) s.counted → s.counted < length (updates_by t w) → t.full ≡ Wait → lane.capacity ≤ length lane.messages
+      → p.threshold ≤ distance_with t.rules s.sent (take s.counted (updates_by t w)) u
+      → IsWorkerAt stands t w p lane (count_step t w s).0 × (Waits ≡ (count_step t w s).1)
+  step_waits u is lt wait full far =
+      let found = distance_found stands t w p p lane s h lt u is u.value refl in
+      let beyond : t.threshold ≤ distance_at t.rules (updates_by t w) s.sent s.counted = omega (arith, far, found, h.threshold) in
+      let queue : length lane.messages ≡ length s.sent - s.taken = ap length h.queued ∙ length-drop s.taken s.sent in
+      let step = count_full t w s lt beyond (omega (arith, full, queue, h.capacity)) ∙ full_waits t.full s wait in
+      (subst (λ z. IsWorkerAt stands t w p lane z) (sym (ap (λ z. z.0) step)) h, sym (ap (λ z. z.1) step))
+
+  -- an update that need not wait is near
+  pub near_enough : (u : Entry) → u ≡ update_at (updates_by t w) s.counted → s.counted < length (updates_by t w)
+      → distance_with t.rules s.sent (take s.counted (updates_by t w)) u < p.threshold → distance_at t.rules (updates_by t w) s.sent s.counted < t.threshold
+  near_enough u is lt near =
+      let found = distance_found stands t w p p lane s h lt u is u.value refl in
+      omega (arith, near, found, h.threshold)

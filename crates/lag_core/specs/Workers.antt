@@ -7,7 +7,8 @@ use Rattle.hash_rows.specs.declared.shape.Update.{Update}
 use Rattle.hash_rows.specs.Rules.{Rules}
 use Rattle.push_history.specs.LagRun.{Terms, Worker, updates_by}
 use Rattle.push_history.specs.Pushes.{IsNamed, is_refused}
-use Rattle.push_history.specs.Told.{messages_before}
+use Rattle.push_history.specs.Told.{messages_before, told_of}
+use Rattle.push_history.specs.Whole.{whole_of}
 use Rattle.push_history.specs.Updates.{HoldValues}
 use Rattle.push_rule.specs.Stands.{Sketch, StandsFor}
 use Rattle.lag_core.specs.Lanes.{Queue}
@@ -21,6 +22,10 @@ pub record Limits : Type 0 where
 
 abbrev pub terms_of : Rules → Limits → Terms
 terms_of r l = record { rules = r; threshold = l.threshold; capacity = l.capacity; full = l.full; updates = l.updates }
+
+-- how far the update takes its cell from what these messages told of it, where these updates were counted before
+abbrev pub distance_with : Rules → List Push → List Update → Update → ℕ
+distance_with r messages before update = r.distance (told_of r update.cell messages) (r.join (whole_of r update.cell before) update.value)
 
 -- the sketch can count these updates: nothing is due, there is room for all, and each is of a cell and has a value of the kind
 pub record CanCount {Held : Type 0} (r : Rules) (updates : List Update) (p : Sketch Held) : Type 0 where

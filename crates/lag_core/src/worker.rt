@@ -1,10 +1,13 @@
-ghost use Rattle.std.specs.Prelude.{◌≡◌, ◌<◌, ◌≤◌, ◌+◌, length, None, true};
+ghost use Rattle.std.specs.Prelude.{◌≡◌, ◌<◌, ◌≤◌, ◌+◌, ℕ, List, length, None, true, false, IsTrue};
 ghost use Rattle.hash_rows.specs.declared.options.Full.{Full};
 ghost use Rattle.hash_rows.specs.declared.options.Full.TheVariants.{Wait};
 ghost use Rattle.push_history.specs.LagRun.{Worker, count_step, updates_by};
 ghost use Rattle.push_history.specs.Pushes.{distance_at};
 ghost use Rattle.push_history.specs.Updates.{update_at};
-ghost use Rattle.lag_core.specs.Workers.{CanCount, IsWorkerAt, Limits, terms_of};
+ghost use Rattle.lag_core.specs.Workers.{CanCount, IsWorkerAt, Limits, distance_with, terms_of};
+ghost use Rattle.hash_rows.specs.declared.shape.Push.{Push};
+ghost use Rattle.hash_rows.specs.declared.shape.Update.{Update};
+ghost use Rattle.push_rule.specs.Stands.{StandsFor};
 
 use crate::lane::Lane;
 use hash_rows::{Full, Kind, Push, Update};
@@ -39,10 +42,32 @@ pub fn take_up<K: Kind>(
         return Reply::Over;
     }
     let update = *updates.get(next);
-    if full == Full::Wait && lane.is_full() && sketch.due_with(update.cell, update.value) {
+    if must_wait(&update, sketch, lane, full) {
         return Reply::Waits;
     }
     count_next(worker, next, &update, sketch, lane)
+}
+
+// Whether the update makes a push due that has to wait for room in the lane.
+fn must_wait<K: Kind>(update: &Update, sketch: &Private<K>, lane: &Lane, full: Full) -> bool
+    requires idle { sketch.now.due ≡ None }
+    requires room { sketch.now.counted < sketch.now.room }
+    requires cell { update.now.cell < length sketch.now.held }
+    requires value { K.rules.is_value update.now.value ≡ true }
+    ensures wait { IsTrue result → full ≡ Wait }
+    ensures full { IsTrue result → lane.now.capacity ≤ length lane.now.messages }
+    ensures far { IsTrue result → (before : List Update) (messages : List Push) (refused : List ℕ) →
+        StandsFor K.stands K.rules sketch.now before messages refused →
+        sketch.now.threshold ≤ distance_with K.rules messages before update.now }
+    ensures near { result ≡ false → full ≡ Wait → lane.now.capacity ≤ length lane.now.messages →
+        (before : List Update) (messages : List Push) (refused : List ℕ) →
+        StandsFor K.stands K.rules sketch.now before messages refused →
+        distance_with K.rules messages before update.now < sketch.now.threshold }
+{
+    match full {
+        Full::Leave => false,
+        Full::Wait => lane.is_full() && sketch.due_with(update.cell, update.value),
+    }
 }
 
 // Counts the update, and sends the push that it makes due, unless the lane is full.
