@@ -1,6 +1,6 @@
 -- Lists with one item more, and lists that are made from a function of the place.
 use Rattle.std.proofs.Common.{◌≡◌, ◌≢◌, ℕ, zero, suc, ◌+◌, ◌<◌, ◌≤◌, ◌==◌, Bool, true, false, cond, List, [], ◌∷◌, ◌++◌, length, map, get_or, set, fold, filter, take, refl, sym, ap, ◌∙◌, arith, subst}
-use Rattle.std.proofs.Common.{slice_get, Some, None}
+use Rattle.std.proofs.Common.{slice_get, Some, None, ◌⊎◌, inl, inr}
 use Rattle.std.specs.Prelude.{All}
 use Rattle.std.specs.List.{range_with_len}
 use Rattle.std.proofs.lemmas.List.{append-nil, length-set, get_or-set_same, get_or-set_other}
@@ -66,3 +66,15 @@ slot_below (y ∷ ys) (suc i) x at = let h = slot_below ys i x at in omega (arit
 -- what holds of each item holds of the one that stands at a place
 pub all_slot : {A : Type 0} (P : A → Type 0) (xs : List A) (i : ℕ) (x : A) → All P xs → slice_get xs i ≡ Some x → P x
 all_slot P xs i x all at = subst P (slot_value xs i x x at) (all i x (slot_below xs i x at))
+
+-- what stands at a place after one item is put
+pub slot_set : {A : Type 0} (xs : List A) (i j : ℕ) (y x : A) → slice_get (set xs i y) j ≡ Some x → ((i ≡ j) × (y ≡ x)) ⊎ ((i ≢ j) × (slice_get xs j ≡ Some x))
+slot_set [] i j y x at = cc
+slot_set (z ∷ zs) zero zero y x at = inl (refl, cc)
+slot_set (z ∷ zs) zero (suc j) y x at = inr (omega arith, at)
+slot_set (z ∷ zs) (suc i) zero y x at = inr (omega arith, at)
+slot_set (z ∷ zs) (suc i) (suc j) y x at = by (slot_set zs i j y x at)
+  where
+    by : ((i ≡ j) × (y ≡ x)) ⊎ ((i ≢ j) × (slice_get zs j ≡ Some x)) → ((suc i ≡ suc j) × (y ≡ x)) ⊎ ((suc i ≢ suc j) × (slice_get zs j ≡ Some x))
+    by (inl h) = inl (ap suc h.0, h.1)
+    by (inr h) = inr ((λ e. h.0 (omega (arith, e))), h.1)

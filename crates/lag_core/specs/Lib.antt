@@ -1,3 +1,4 @@
 pub mod Lanes
 pub mod Sights
 pub mod Workers
+pub mod Lags

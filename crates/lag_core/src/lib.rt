@@ -2,9 +2,10 @@
 //! takes them, and readers of what is shown of it. No threads.
 #![tactic(auto)]
 
+mod lag;
 mod lane;
 mod sight;
 mod worker;
 
-pub use lane::Lane;
+pub use lag::Lag;
 pub use worker::{UpdateList, UpdateRows};
