@@ -2,10 +2,8 @@ ghost use Rattle.std.specs.Prelude.{◌≡◌, ◌+◌, ◌*◌, ◌<◌, ◌≤
 ghost use Rattle.std.specs.List.{flat_map, enumerate_from};
 ghost use Rattle.flow_base.specs.Causes.{HasCause};
 ghost use Rattle.flow_base.specs.Writing.{Writes};
-ghost use Rattle.hash_rows.specs.Lawful.{IsLawful};
-ghost use Rattle.hash_rows.specs.Marks.{marked};
 ghost use Rattle.push_history.specs.Journal.{with_journal};
-ghost use Rattle.octo_text.specs.Content.{content_of, Suits};
+ghost use Rattle.octo_text.specs.Content.{content_of, IsComplete};
 ghost use Rattle.octo_text.specs.Lines.{words_line, count_line, key_line};
 ghost use Rattle.octo_text.specs.JournalText.{share_words, push_words, query_words, options_line, terms_lines, live_lines, journal_text};
 
@@ -111,10 +109,7 @@ fn write_live<T: Sink>(out: &mut T, journal: &Journal) -> Result<(), Failed>
 ///
 /// After an error the sink holds a proper front of the text.
 pub fn write_journal<T: Sink>(out: &mut T, journal: &Journal) -> Result<(), Failed>
-    requires options { IsLawful journal.now.options }
-    requires refused { length journal.now.refused.items ≡ journal.now.options.workers }
-    requires pushes { length journal.now.pushes.items ≡ journal.now.options.workers }
-    requires answers { All (Suits journal.now.options) journal.now.answers.items }
+    requires { IsComplete journal.now }
     ensures writes { Writes (T.holds out.old) (T.holds out.new) (journal_text (content_of journal.now)) result }
     ensures cause { HasCause (T.faults out.old) (T.faults out.new) result }
 {
