@@ -1,7 +1,8 @@
 -- What a journal tells.
-use Rattle.std.specs.Prelude.{◌≡◌, ℕ, List, length, map, ◌≤◌}
+use Rattle.std.specs.Prelude.{◌≡◌, ℕ, List, length, map, ◌≤◌, All}
 use Rattle.hash_rows.specs.declared.answer.Answer.{Answer}
 use Rattle.hash_rows.specs.declared.options.Options.{Options}
+use Rattle.hash_rows.specs.Lawful.{IsLawful}
 use Rattle.hash_rows.specs.Marks.{marked}
 use Rattle.push_history.specs.Answers.{AnswerParts}
 use Rattle.push_history.specs.Journal.{Journal as Content, with_journal, keys_of}
@@ -23,9 +24,16 @@ content_of j = record {
 }
 
 -- one front number for each worker, and one estimate for each asked key
-pub record Suits (o : Options) (a : Answer) : Type 0 where
+pub record IsAnswerFor (o : Options) (a : Answer) : Type 0 where
   pub front : length a.front.items ≡ o.workers
   pub shown : length a.shown.items ≡ length (keys_of o)
+
+-- the options are lawful, and each worker and each answer is told of as they ask
+pub record IsComplete (j : Journal) : Type 0 where
+  pub options : IsLawful j.options
+  pub refused : length j.refused.items ≡ j.options.workers
+  pub pushes : length j.pushes.items ≡ j.options.workers
+  pub answers : All (IsAnswerFor j.options) j.answers.items
 
 -- so few numbers that the answer's line is short
 pub record FitsLine (a : Answer) : Type 0 where

@@ -9,15 +9,17 @@ use Rattle.push_history.specs.Journal.{Journal}
 use Rattle.octo_text.specs.Lines.{words_line, count_line, key_line, sketch_words}
 use Rattle.octo_text.specs.Runs.{runs_of}
 
--- how packets are shared out
+-- how packets are shared out, and how far a cell changes before it is told
 unfoldable pub share_words : Options → List ℕ
-share_words o = codes " share " ++ share_text o.share ++ codes " workers " ++ decimal o.workers
+share_words o =
+    codes " share " ++ share_text o.share
+    ++ codes " workers " ++ decimal o.workers
+    ++ codes " threshold " ++ decimal o.threshold
 
--- how changes are told
-unfoldable pub push_words : Options → List ℕ
-push_words o =
-    codes " threshold " ++ decimal o.threshold
-    ++ codes " lane " ++ decimal o.lane
+-- the lanes, and how they are emptied
+unfoldable pub lane_words : Options → List ℕ
+lane_words o =
+    codes " lane " ++ decimal o.lane
     ++ codes " batch " ++ decimal o.batch
     ++ codes " round " ++ decimal o.round
     ++ codes " full " ++ full_text o.full
@@ -37,7 +39,7 @@ options_line o =
     codes "options "
     ++ sketch_words o.sketch o.shape o.amount
     ++ share_words o
-    ++ push_words o
+    ++ lane_words o
     ++ query_words o ++ codes "\n"
 
 -- a worker, the number of its pushes and that of its refused updates

@@ -2,12 +2,10 @@ ghost use Rattle.std.specs.Prelude.{◌≡◌, ◌+◌, ◌*◌, ◌<◌, ◌≤
 ghost use Rattle.std.specs.List.{flat_map, enumerate_from};
 ghost use Rattle.flow_base.specs.Causes.{HasCause};
 ghost use Rattle.flow_base.specs.Writing.{Writes};
-ghost use Rattle.hash_rows.specs.Lawful.{IsLawful};
-ghost use Rattle.hash_rows.specs.Marks.{marked};
 ghost use Rattle.push_history.specs.Journal.{with_journal};
-ghost use Rattle.octo_text.specs.Content.{content_of, Suits};
+ghost use Rattle.octo_text.specs.Content.{content_of, IsComplete};
 ghost use Rattle.octo_text.specs.Lines.{words_line, count_line, key_line};
-ghost use Rattle.octo_text.specs.JournalText.{share_words, push_words, query_words, options_line, terms_lines, live_lines, journal_text};
+ghost use Rattle.octo_text.specs.JournalText.{share_words, lane_words, query_words, options_line, terms_lines, live_lines, journal_text};
 
 use crate::answers::write_answers;
 use crate::choices::{full_word, mode_word, share_word};
@@ -34,7 +32,7 @@ pub struct Journal {
     pub missed: u64,
 }
 
-// Adds how packets are shared out.
+// Adds how packets are shared out, and how far a cell changes before it is told.
 #[tactic(auto, unfolding(crate::specs::JournalText::share_words))]
 fn put_share(line: &mut Line, options: &Options)
     requires { length line.old + 100 ≤ 1024 }
@@ -44,16 +42,16 @@ fn put_share(line: &mut Line, options: &Options)
     line.text(b" share ");
     line.text(share_word(options.share));
     line.named(b" workers ", u64::from(options.workers));
+    line.named(b" threshold ", options.threshold);
 }
 
-// Adds how changes are told.
-#[tactic(auto, unfolding(crate::specs::JournalText::push_words))]
-fn put_pushes(line: &mut Line, options: &Options)
+// Adds the lanes, and how they are emptied.
+#[tactic(auto, unfolding(crate::specs::JournalText::lane_words))]
+fn put_lanes(line: &mut Line, options: &Options)
     requires { length line.old + 200 ≤ 1024 }
-    ensures text { line.new ≡ line.old ++ push_words options.now }
+    ensures text { line.new ≡ line.old ++ lane_words options.now }
     ensures room { length line.new ≤ length line.old + 200 }
 {
-    line.named(b" threshold ", options.threshold);
     line.named(b" lane ", u64::from(options.lane));
     line.named(b" batch ", u64::from(options.batch));
     line.named(b" round ", u64::from(options.round));
@@ -86,7 +84,7 @@ fn write_options<T: Sink>(out: &mut T, options: &Options) -> Result<(), Failed>
     line.text(b"options ");
     put_sketch(&mut line, options.sketch, &options.shape, options.amount);
     put_share(&mut line, options);
-    put_pushes(&mut line, options);
+    put_lanes(&mut line, options);
     put_queries(&mut line, options);
     line.send(out)
 }
@@ -111,10 +109,7 @@ fn write_live<T: Sink>(out: &mut T, journal: &Journal) -> Result<(), Failed>
 ///
 /// After an error the sink holds a proper front of the text.
 pub fn write_journal<T: Sink>(out: &mut T, journal: &Journal) -> Result<(), Failed>
-    requires options { IsLawful journal.now.options }
-    requires refused { length journal.now.refused.items ≡ journal.now.options.workers }
-    requires pushes { length journal.now.pushes.items ≡ journal.now.options.workers }
-    requires answers { All (Suits journal.now.options) journal.now.answers.items }
+    requires { IsComplete journal.now }
     ensures writes { Writes (T.holds out.old) (T.holds out.new) (journal_text (content_of journal.now)) result }
     ensures cause { HasCause (T.faults out.old) (T.faults out.new) result }
 {

@@ -10,5 +10,8 @@ mod report;
 mod runs;
 mod workers;
 
-pub use journal::Journal;
+pub use journal::{Journal, write_journal};
 pub use report::{Report, write_report};
+
+#[cfg(test)]
+mod tests;
