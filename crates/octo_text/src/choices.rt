@@ -3,6 +3,7 @@ ghost use Rattle.hash_rows.specs.OptionTexts.{sketch_text, amount_text, share_te
 
 use hash_rows::{Amount, Full, Mode, Share, Sketch};
 
+#[tactic(auto, unfolding(hash_rows::specs::OptionTexts::sketch_text))]
 pub(crate) fn sketch_word(sketch: Sketch) -> &'static [u8]
     ensures text { result.now ≡ sketch_text sketch }
     ensures room { length result.now ≤ 20 }
@@ -14,6 +15,7 @@ pub(crate) fn sketch_word(sketch: Sketch) -> &'static [u8]
     }
 }
 
+#[tactic(auto, unfolding(hash_rows::specs::OptionTexts::amount_text))]
 pub(crate) fn amount_word(amount: Amount) -> &'static [u8]
     ensures text { result.now ≡ amount_text amount }
     ensures room { length result.now ≤ 20 }
@@ -24,6 +26,7 @@ pub(crate) fn amount_word(amount: Amount) -> &'static [u8]
     }
 }
 
+#[tactic(auto, unfolding(hash_rows::specs::OptionTexts::share_text))]
 pub(crate) fn share_word(share: Share) -> &'static [u8]
     ensures text { result.now ≡ share_text share }
     ensures room { length result.now ≤ 20 }
@@ -34,6 +37,7 @@ pub(crate) fn share_word(share: Share) -> &'static [u8]
     }
 }
 
+#[tactic(auto, unfolding(hash_rows::specs::OptionTexts::full_text))]
 pub(crate) fn full_word(full: Full) -> &'static [u8]
     ensures text { result.now ≡ full_text full }
     ensures room { length result.now ≤ 20 }
@@ -44,6 +48,7 @@ pub(crate) fn full_word(full: Full) -> &'static [u8]
     }
 }
 
+#[tactic(auto, unfolding(hash_rows::specs::OptionTexts::mode_text))]
 pub(crate) fn mode_word(mode: Mode) -> &'static [u8]
     ensures text { result.now ≡ mode_text mode }
     ensures room { length result.now ≤ 20 }
