@@ -9,6 +9,7 @@ use listed::Listed;
 use std::alloc::Global;
 
 /// The sum of all amounts.
+#[tactic(auto, unfolding(hash_rows::specs::Amounts::total_amount))]
 pub fn total_of(packets: &[Packet]) -> u64
     requires { length packets.now ≤ 16777216 }
     ensures { result ≡ total_amount packets.now }
