@@ -3,4 +3,10 @@
 #![tactic(auto)]
 
 mod fault;
+mod report;
+mod run;
 mod tell;
+
+pub use capture_load::{Capture, GenSource, LoadStop, load_capture};
+pub use run::octo_rounds;
+pub use words::{Command, WordStop, read_words};

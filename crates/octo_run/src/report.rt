@@ -16,8 +16,7 @@ use std::alloc::Global;
 pub fn report(alloc: Global, capture: &Capture, options: &Options) -> Result<Report, NoMemory>
     requires options { IsLawful options.now }
     requires packets { length capture.now.packets.items ≤ 16777216 }
-    ensures report { IfOk result (IsReport capture.now.packets.items capture.now.records capture.now.skipped capture.now.cut options.now) }
-    ensures writable { IfOk result IsWritable }
+    ensures { IfOk result (IsReport capture.now.packets.items capture.now.records capture.now.skipped capture.now.cut options.now) }
 {
     match options.sketch {
         Sketch::CountMin => report_by::<CountMin>(alloc, capture, options),
@@ -34,8 +33,7 @@ fn report_by<K: Kind>(
     requires options { IsLawful options.now }
     requires sketch { options.now.sketch ≡ K.sketch }
     requires packets { length capture.now.packets.items ≤ 16777216 }
-    ensures report { IfOk result (IsReport capture.now.packets.items capture.now.records capture.now.skipped capture.now.cut options.now) }
-    ensures writable { IfOk result IsWritable }
+    ensures { IfOk result (IsReport capture.now.packets.items capture.now.records capture.now.skipped capture.now.cut options.now) }
 {
     let packets = capture.packets.as_slice();
     let table = sequential::<K>(alloc, packets, options.shape)?;
