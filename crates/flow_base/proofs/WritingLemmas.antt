@@ -56,7 +56,7 @@ pub writes_more_stop : {T U E F G X : Type 0} {old mid new : Option (List ℕ)} 
     → Writes {T = T} {E = G} old new (flat_map text (done ++ x ∷ rest)) result
 writes_more_stop {T = T} {G = G} {old = old} {new = new} text done x rest result failed before wrote =
     subst (λ (t : List ℕ). Writes {T = T} {E = G} old new t result) (sym (flat_map-append text done (x ∷ rest)))
-        (writes_front old new (flat_map text done ++ (text x ++ flat_map text rest)) result failed (then_stop before (stop (flat_map text rest) wrote.err)))
+    (writes_front old new (flat_map text done ++ (text x ++ flat_map text rest)) result failed (then_stop before (stop (flat_map text rest) wrote.err)))
 
 -- the same, where the items are those of a list up to an index
 pub writes_item : {T U E F X : Type 0} {old mid new : Option (List ℕ)} {a : T} {b : U} (text : X → List ℕ) (xs : List X) (i : ℕ) (d : X) (z : T) → i < length xs
@@ -70,9 +70,9 @@ pub writes_item_stop : {T U E F G X : Type 0} {old mid new : Option (List ℕ)} 
     → Writes {T = T} {E = G} old new (flat_map text xs) result
 writes_item_stop {T = T} {G = G} {X = X} {old = old} {new = new} text xs i d result within failed before wrote =
     let parts : take i xs ++ get_or xs i d ∷ drop (suc i) xs ≡ xs =
-        ap (λ (ys : List X). take i xs ++ ys) (sym (drop-cons xs i d within)) ∙ take-append-drop i xs in
+    ap (λ (ys : List X). take i xs ++ ys) (sym (drop-cons xs i d within)) ∙ take-append-drop i xs in
     subst (λ (ys : List X). Writes {T = T} {E = G} old new (flat_map text ys) result) parts
-        (writes_more_stop text (take i xs) (get_or xs i d) (drop (suc i) xs) result failed before wrote)
+    (writes_more_stop text (take i xs) (get_or xs i d) (drop (suc i) xs) result failed before wrote)
 
 -- at its end, all of them
 pub writes_items : {T E : Type 0} {X : Type 0} {old new : Option (List ℕ)} {x : T} (text : X → List ℕ) (xs : List X) (i : ℕ) → length xs ≤ i → i ≤ length xs

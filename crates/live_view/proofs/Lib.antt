@@ -1,2 +1,6 @@
 mod Lists
+mod Layouts
 mod Shown
+mod Kept
+mod Copied
+mod Live

@@ -2,7 +2,7 @@ ghost use Rattle.std.specs.Prelude.{◌≡◌, ◌<◌, ◌≤◌, ℕ, length, 
 ghost use Rattle.hash_rows.specs.Shapes.{IsShape};
 ghost use Rattle.live_view.specs.Fold.{absorbed, added, fits, fresh_state, front_raised, key_noted, layout_of};
 
-use crate::Layout;
+use crate::copies::{copy_counts, copy_table};
 use flow_base::NoMemory;
 use hash_rows::{Counts, Kind, Push, Shape, Table};
 use heavy_keys::Heavy;
@@ -23,13 +23,14 @@ pub struct State<K: Kind> {
 
 impl<K: Kind> Model for State<K> {
     ghost use Rattle.std.specs.Prelude.{◌≡◌, length};
+    ghost use Rattle.hash_rows.specs.Shapes.{size_of};
     ghost use Rattle.live_view.specs.Fold.{Fold};
 
     ghost Value = { Fold };
 
     ghost view = { λ s. record { table = s.table; front = s.front.items; upto = s.upto.items; folded = s.folded; heavy = s.heavy } };
 
-    ghost invariant = { λ s. length s.upto.items ≡ length s.front.items };
+    ghost invariant = { λ s. (length s.upto.items ≡ length s.front.items) × (length s.table.cells ≡ size_of s.table.shape) };
 }
 
 impl<K: Kind> State<K> {
@@ -62,8 +63,7 @@ impl<K: Kind> State<K> {
         if self.takes(message) {
             self.table.put(message.cell, message.amount);
             raise(&mut self.front, message.worker);
-            self.upto
-                .set(message.worker, u64::from(message.update) + 1);
+            self.upto.set(message.worker, u64::from(message.update) + 1);
             self.folded = self.folded.saturating_add(1);
             note_key(&self.table, &mut self.heavy, &message.key);
         }
@@ -92,6 +92,21 @@ impl<K: Kind> State<K> {
         self.front.len()
     }
 
+    /// How many messages of each worker were folded.
+    pub fn fronts(&self) -> &[u64]
+        ensures { result.now ≡ self.now.front }
+    {
+        self.front.as_slice()
+    }
+
+    /// Of each worker one more than its last folded update, 0 where there is none.
+    pub fn uptos(&self) -> &[u64]
+        ensures counts { result.now ≡ self.now.upto }
+        ensures workers { length self.now.upto ≡ length self.now.front }
+    {
+        self.upto.as_slice()
+    }
+
     /// How many messages of the worker were folded.
     pub fn front(&self, worker: u32) -> u64
         requires { worker < length self.now.front }
@@ -113,6 +128,18 @@ impl<K: Kind> State<K> {
         ensures { result ≡ self.now.folded }
     {
         self.folded
+    }
+
+    /// Makes a state with no message the same as the other. It takes no memory.
+    pub fn copy_from(&mut self, other: &State<K>)
+        requires { self.old ≡ fresh_state (layout_of other.now) }
+        ensures { self.new ≡ other.now }
+    {
+        copy_table(&other.table, &mut self.table);
+        copy_counts(other.front.as_slice(), &mut self.front);
+        copy_counts(other.upto.as_slice(), &mut self.upto);
+        self.folded = other.folded;
+        self.heavy.copy_from(&other.heavy);
     }
 
     /// The heavy keys.

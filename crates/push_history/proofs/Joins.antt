@@ -6,7 +6,8 @@ use Rattle.std.proofs.lemmas.List.Elements.{All-head, All-tail, All-map, All-fil
 use Rattle.hash_rows.specs.declared.shape.Update.{Update}
 use Rattle.hash_rows.specs.declared.shape.Push.{Push}
 use Rattle.hash_rows.specs.Rules.{Rules, AreLaws, AreValues}
-use Rattle.push_history.specs.Whole.{joined_of, whole_of}
+use Rattle.hash_rows.specs.Sequential.{joined_of}
+use Rattle.push_history.specs.Whole.{whole_of}
 use Rattle.push_history.specs.Told.{told_of}
 use Rattle.push_history.proofs.Lists.{kept_push}
 

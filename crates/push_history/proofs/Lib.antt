@@ -1,6 +1,14 @@
 pub mod Lists
 pub mod Joins
 pub mod Growing
+pub mod Telling
+pub mod Parts
+pub mod Sharing
+pub mod Folded
+pub mod Lawfuls
+pub mod RunLaws
+pub mod Conserved
+pub mod Notes
 pub mod Runs
 pub mod RoundRuns
 pub mod RoundSteps

@@ -1,10 +1,15 @@
 -- Filters, and lists that grow at their end.
-use Rattle.std.proofs.Common.{◌≡◌, ◌<◌, ℕ, ◌+◌, List, [], ◌∷◌, ◌++◌, length, get_or, Bool, true, false, refl, sym, ap, ◌∙◌, arith, ◌⊎◌, inl, inr}
+use Rattle.std.proofs.Common.{zero, suc, take, ◌||◌, ◌≡◌, ◌<◌, ◌≤◌, ℕ, ◌+◌, List, [], ◌∷◌, ◌++◌, length, get_or, Bool, true, false, refl, sym, ap, ◌∙◌, arith, ◌⊎◌, inl, inr}
 use Rattle.std.specs.Prelude.{filter, map, All, if◌then◌else◌}
+use Rattle.std.specs.List.{list_any}
 use Rattle.std.specs.List.Sorted.{IsStrictlyIncreasing}
 use Rattle.std.proofs.lemmas.List.{map-append, append-nil, get_or_append_left, get_or_push, length_push}
 use Rattle.std.proofs.lemmas.List.Elements.{All-head, All-tail, filter-append}
 use Rattle.std.proofs.Math.Nat.{eq-or-lt_of_le}
+
+or_false : (a b : Bool) → (a || b) ≡ false → (a ≡ false) × (b ≡ false)
+or_false true b is = absurd (cc)
+or_false false b is = (refl, is)
 
 -- what passes whole is kept
 pub filter_kept : {X : Type 0} (p : X → Bool) (xs : List X) → All (λ x. p x ≡ true) xs → filter p xs ≡ xs
@@ -42,3 +47,43 @@ increases_by xs x k rising below (inr early) =
 -- a number above all goes to the end of a list that rises
 pub increasing_push : (xs : List ℕ) (x : ℕ) → IsStrictlyIncreasing xs → All (λ y. y < x) xs → IsStrictlyIncreasing (xs ++ x ∷ [])
 increasing_push xs x rising below = λ k lt. increases_by xs x k rising below (last_or_before xs x (k + 1) lt)
+
+filter_none : {X : Type 0} (p : X → Bool) (xs : List X) → ((k : ℕ) (d : X) → k < length xs → p (get_or xs k d) ≡ false) → filter p xs ≡ []
+filter_none p [] none = refl
+filter_none p (x ∷ xs) none =
+    let fails : p x ≡ false = none 0 x (omega arith) in
+    rw fails (filter_none p xs (λ k d lt. none (suc k) d (omega (arith, lt))))
+
+-- where the first j pass and no later one does
+pub filter_front : {X : Type 0} (p : X → Bool) (xs : List X) (j : ℕ)
+    → ((k : ℕ) (d : X) → k < j → k < length xs → p (get_or xs k d) ≡ true)
+    → ((k : ℕ) (d : X) → j ≤ k → k < length xs → p (get_or xs k d) ≡ false) → filter p xs ≡ take j xs
+filter_front p [] zero front back = refl
+filter_front p [] (suc j) front back = refl
+filter_front p (x ∷ xs) zero front back = filter_none p (x ∷ xs) (λ k d lt. back k d (omega arith) lt)
+filter_front p (x ∷ xs) (suc j) front back =
+    let passes : p x ≡ true = front 0 x (omega arith) (omega arith) in
+    rw passes (ap (λ t. x ∷ t) (filter_front p xs j (λ k d lt within. front (suc k) d (omega (arith, lt)) (omega (arith, within))) (λ k d le within. back (suc k) d (omega (arith, le)) (omega (arith, within)))))
+
+-- tests that agree on the list keep the same
+pub filter_same : {X : Type 0} (p q : X → Bool) (xs : List X) → ((k : ℕ) (d : X) → k < length xs → p (get_or xs k d) ≡ q (get_or xs k d)) → filter p xs ≡ filter q xs
+filter_same p q [] same = refl
+filter_same p q (x ∷ xs) same =
+    rw (same 0 x (omega arith)) (ap (λ t. if q x then x ∷ t else t) (filter_same p q xs (λ k d lt. same (suc k) d (omega (arith, lt)))))
+
+-- where none passes, each fails
+pub each_fails : {X : Type 0} (p : X → Bool) (xs : List X) → list_any p xs ≡ false → (k : ℕ) (d : X) → k < length xs → p (get_or xs k d) ≡ false
+each_fails p [] none k d lt = absurd (omega (arith, lt))
+each_fails p (x ∷ xs) none zero d lt = (or_false (p x) (list_any p xs) none).0
+each_fails p (x ∷ xs) none (suc k) d lt = each_fails p xs (or_false (p x) (list_any p xs) none).1 k d (omega (arith, lt))
+
+-- the place of one that passes
+pub some_passes : {X : Type 0} (p : X → Bool) (xs : List X) → list_any p xs ≡ true → (k : ℕ) × (k < length xs) × ((d : X) → p (get_or xs k d) ≡ true)
+some_passes p [] some = absurd (cc)
+some_passes p (x ∷ xs) some = some_by p x xs (p x) refl some (λ later. some_passes p xs later)
+  where
+    some_by : {X : Type 0} (p : X → Bool) (x : X) (xs : List X) (b : Bool) → p x ≡ b → (b || list_any p xs) ≡ true
+        → (list_any p xs ≡ true → (k : ℕ) × (k < length xs) × ((d : X) → p (get_or xs k d) ≡ true))
+        → (k : ℕ) × (k < length (x ∷ xs)) × ((d : X) → p (get_or (x ∷ xs) k d) ≡ true)
+    some_by p x xs true is some later = (0, omega arith, λ d. is)
+    some_by p x xs false is some later = let at = later some in (suc at.0, omega (arith, at.1), λ d. at.2 d)

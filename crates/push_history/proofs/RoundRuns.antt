@@ -1,18 +1,18 @@
 -- A round, worker by worker: each worker's part is a step of its own, and the fold grows by what each lane gives.
-use Rattle.std.proofs.Common.{◌≡◌, ◌<◌, ◌≤◌, ℕ, zero, suc, ◌+◌, ◌-◌, ◌==◌, List, [], ◌∷◌, ◌++◌, length, get_or, set, length-set, take, drop, replicate, Bool, true, false, nat_lt, refl, sym, ap, ◌∙◌, subst, arith, append_assoc, ◌*◌, drop-cons, add-zero, add-one, pos, ◌⊎◌, inl, inr}
-use Rattle.std.specs.Prelude.{fold, if◌then◌else◌, slice_set, slice_index_or, min}
+use Rattle.std.proofs.Common.{◌≡◌, ◌<◌, ◌≤◌, ℕ, zero, suc, ◌+◌, ◌==◌, List, [], ◌∷◌, ◌++◌, length, set, length-set, take, drop, replicate, false, refl, sym, ap, ◌∙◌, subst, arith, append_assoc, ◌*◌, drop-cons, add-zero, add-one, pos, inl, inr}
+use Rattle.std.specs.Prelude.{fold, slice_set, slice_index_or, min}
 use Rattle.std.specs.List.{flat_map, range_with_len}
 use Rattle.std.proofs.lemmas.List.{append-nil, get_or-set_same, get_or-set_other}
 use Rattle.std.proofs.Math.Nat.{eq-or-lt_of_le}
 use Rattle.hash_rows.specs.declared.options.Options.{Options}
 use Rattle.hash_rows.specs.declared.shape.Push.{Push}
 use Rattle.push_history.specs.declared.event.Event.{Event}
-use Rattle.push_history.specs.declared.event.Event.TheVariants.{Update, Take, Publish, Ask}
+use Rattle.push_history.specs.declared.event.Event.TheVariants.{Take}
 use Rattle.push_history.specs.Share.{zero_key}
 use Rattle.push_history.specs.Front.{message_at}
-use Rattle.push_history.specs.LagRun.{Terms, Worker, State, worker_in, with_worker, fresh_worker, take_step, lag_step, lag_run, updates_by}
+use Rattle.push_history.specs.LagRun.{Terms, Worker, State, worker_in, fresh_worker, take_step, lag_step, lag_run}
 use Rattle.push_history.specs.Rounds.{count_times, count_in_round, fold_in_round, held_by, updates_left}
-use Rattle.push_history.specs.OwnSteps.{counts, left_of, held_of, with_taken, next_taken, counted_in_round}
+use Rattle.push_history.specs.OwnSteps.{counts, held_of, with_taken, next_taken, counted_in_round}
 use Rattle.push_history.proofs.Runs.{run_more, count_times_run, same_worker, set_twice}
 
 abbrev no_push : Push
@@ -63,12 +63,13 @@ one_more f g a k s s' within rest =
     record {
       len = rest.len ∙ length-set s.workers a x;
       done = λ w low high. elim (eq-or-lt_of_le low) [
-        inl e ↦ subst (λ v. worker_in s' v ≡ f v (worker_in s v)) e (rest.before a (omega arith) ∙ there)
-        | inr lt ↦ rest.done w (omega (arith, lt)) (omega (arith, high)) ∙ ap (f w) (other w (λ e. absurd (omega (arith, lt, e)))) ];
+        | inl e ↦ subst (λ v. worker_in s' v ≡ f v (worker_in s v)) e (rest.before a (omega arith) ∙ there)
+        | inr lt ↦ rest.done w (omega (arith, lt)) (omega (arith, high)) ∙ ap (f w) (other w (λ e. absurd (omega (arith, lt, e))))
+      ];
       before = λ w lt. rest.before w (omega (arith, lt)) ∙ other w (λ e. absurd (omega (arith, lt, e)));
       behind = λ w le. rest.behind w (omega (arith, le)) ∙ other w (λ e. absurd (omega (arith, le, e)));
       folded = rest.folded ∙ append_assoc s.folded (g a (worker_in s a)) _
-        ∙ ap (λ t. s.folded ++ (g a (worker_in s a) ++ t)) (flat_map_same _ _ (a + 1) k (λ w low high. ap (g w) (other w (λ e. absurd (omega (arith, low, e))))));
+          ∙ ap (λ t. s.folded ++ (g a (worker_in s a) ++ t)) (flat_map_same _ _ (a + 1) k (λ w low high. ap (g w) (other w (λ e. absurd (omega (arith, low, e))))));
       shown = rest.shown;
       seen = rest.seen;
     }
@@ -105,19 +106,19 @@ take_once t s w held =
 -- and then n more
 take_more : (s : State) (w n : ℕ) → suc n ≤ held_of (worker_in s w)
     → stepped (stepped s w (with_taken (worker_in s w) 1) (message_at (worker_in s w).sent (worker_in s w).taken ∷ [])) w
-        (with_taken (with_taken (worker_in s w) 1) n) (next_taken (with_taken (worker_in s w) 1) n)
+    (with_taken (with_taken (worker_in s w) 1) n) (next_taken (with_taken (worker_in s w) 1) n)
     ≡ stepped s w (with_taken (worker_in s w) (suc n)) (next_taken (worker_in s w) (suc n))
 take_more s w n held =
     let x = worker_in s w in
     let m = message_at x.sent x.taken in
     let same : with_taken (with_taken x 1) n ≡ with_taken x (suc n) =
-        ap (λ (k : ℕ). record { counted = x.counted; sent = x.sent; refused = x.refused; taken = k }) (omega arith) in
+    ap (λ (k : ℕ). record { counted = x.counted; sent = x.sent; refused = x.refused; taken = k }) (omega arith) in
     let front : m ∷ next_taken (with_taken x 1) n ≡ next_taken x (suc n) =
-        ap (λ (k : ℕ). m ∷ take n (drop k x.sent)) (add-one x.taken) ∙ ap (λ (l : List Push). take (suc n) l) (sym (drop-cons x.sent x.taken no_push (omega (arith, held)))) in
+    ap (λ (k : ℕ). m ∷ take n (drop k x.sent)) (add-one x.taken) ∙ ap (λ (l : List Push). take (suc n) l) (sym (drop-cons x.sent x.taken no_push (omega (arith, held)))) in
     ap (λ (ws : List Worker). record { workers = ws; folded = s.folded ++ m ∷ [] ++ next_taken (with_taken x 1) n; shown = s.shown; seen = s.seen }) (set_twice s.workers w (with_taken x 1) (with_taken (with_taken x 1) n))
     ∙ ap (λ (y : Worker). record { workers = slice_set s.workers w y; folded = s.folded ++ m ∷ [] ++ next_taken (with_taken x 1) n; shown = s.shown; seen = s.seen }) same
     ∙ ap (λ (ms : List Push). record { workers = slice_set s.workers w (with_taken x (suc n)); folded = ms; shown = s.shown; seen = s.seen })
-        (append_assoc s.folded (m ∷ []) (next_taken (with_taken x 1) n) ∙ ap (λ (l : List Push). s.folded ++ l) front)
+    (append_assoc s.folded (m ∷ []) (next_taken (with_taken x 1) n) ∙ ap (λ (l : List Push). s.folded ++ l) front)
 
 -- the oldest messages of a lane are folded
 takes_run : (t : Terms) (readers w n : ℕ) (events : List Event) (s : State) → lag_run t readers events ≡ s → w < length s.workers
@@ -126,14 +127,14 @@ takes_run : (t : Terms) (readers w n : ℕ) (events : List Event) (s : State) �
 takes_run t readers w zero events s is within held =
     let x = worker_in s w in
     ap (lag_run t readers) (append-nil events) ∙ is ∙ sym (
-        ap (λ (n : ℕ). stepped s w (record { counted = x.counted; sent = x.sent; refused = x.refused; taken = n }) []) (add-zero x.taken)
-        ∙ ap (λ (ms : List Push). record { workers = slice_set s.workers w x; folded = ms; shown = s.shown; seen = s.seen }) (append-nil s.folded)
-        ∙ same_worker s w)
+    ap (λ (n : ℕ). stepped s w (record { counted = x.counted; sent = x.sent; refused = x.refused; taken = n }) []) (add-zero x.taken)
+    ∙ ap (λ (ms : List Push). record { workers = slice_set s.workers w x; folded = ms; shown = s.shown; seen = s.seen }) (append-nil s.folded)
+    ∙ same_worker s w)
 takes_run t readers w (suc n) events s is within held =
     let x = worker_in s w in
     let one = stepped s w (with_taken x 1) (message_at x.sent x.taken ∷ []) in
     let now : lag_run t readers (events ++ Take w ∷ []) ≡ one =
-        run_more t readers events (Take w) ∙ ap (λ (z : State). (lag_step t z (Take w)).0) is ∙ take_once t s w (omega (arith, held)) in
+    run_more t readers events (Take w) ∙ ap (λ (z : State). (lag_step t z (Take w)).0) is ∙ take_once t s w (omega (arith, held)) in
     let there : worker_in one w ≡ with_taken x 1 = get_or-set_same s.workers w (with_taken x 1) fresh_worker within in
     let inside : w < length one.workers = rw (length-set s.workers w (with_taken x 1)) within in
     let few : n ≤ held_of (worker_in one w) = subst (λ (y : Worker). n ≤ held_of y) (sym there) (omega (arith, held)) in

@@ -1,11 +1,11 @@
 -- A run after one event more, and what the events of one worker make of it.
-use Rattle.std.proofs.Common.{◌≡◌, ◌<◌, ◌≤◌, ℕ, zero, suc, ◌+◌, ◌-◌, List, [], ◌∷◌, ◌++◌, length, get_or, set, length-set, take, drop, replicate, Bool, true, false, nat_lt, refl, sym, ap, ◌∙◌, subst, arith, append_assoc}
-use Rattle.std.specs.Prelude.{fold, if◌then◌else◌, slice_set, slice_index_or}
-use Rattle.std.proofs.lemmas.List.{append-nil, set-get_or, get_or-set_same, get_or-set_other}
+use Rattle.std.proofs.Common.{◌≡◌, ◌<◌, ℕ, zero, suc, List, [], ◌∷◌, ◌++◌, length, set, length-set, true, false, refl, sym, ap, ◌∙◌}
+use Rattle.std.specs.Prelude.{if◌then◌else◌}
+use Rattle.std.proofs.lemmas.List.{set-get_or, get_or-set_same}
 use Rattle.std.proofs.lemmas.List.Sums.{fold-append}
 use Rattle.push_history.specs.declared.event.Event.{Event}
-use Rattle.push_history.specs.declared.event.Event.TheVariants.{Update, Take, Publish, Ask}
-use Rattle.push_history.specs.LagRun.{Terms, Worker, State, worker_in, with_worker, fresh_worker, count_step, take_step, lag_step, lag_run, reply_to, start}
+use Rattle.push_history.specs.declared.event.Event.TheVariants.{Update}
+use Rattle.push_history.specs.LagRun.{Terms, Worker, State, worker_in, with_worker, fresh_worker, count_step, lag_step, lag_run, reply_to, start}
 use Rattle.push_history.specs.Rounds.{is_waits, count_times}
 use Rattle.push_history.specs.OwnSteps.{counts}
 
@@ -47,12 +47,12 @@ count_times_run t readers w zero events s is within = is ∙ sym (same_worker s 
 count_times_run t readers w (suc n) events s is within =
     let c = count_step t w (worker_in s w) in
     let next : lag_run t readers (events ++ Update w ∷ []) ≡ with_worker s w c.0 =
-        update_run t readers events w ∙ ap (λ (z : State). with_worker z w (count_step t w (worker_in z w)).0) is in
+    update_run t readers events w ∙ ap (λ (z : State). with_worker z w (count_step t w (worker_in z w)).0) is in
     let reply : reply_to t readers events (Update w) ≡ c.1 = update_reply t readers events w ∙ ap (λ (z : State). (count_step t w (worker_in z w)).1) is in
     let inside : w < length (with_worker s w c.0).workers = rw (length-set s.workers w c.0) within in
     let rest : lag_run t readers (count_times t readers w n (events ++ Update w ∷ [])) ≡ with_worker s w (counts t w n c.0) =
-        count_times_run t readers w n (events ++ Update w ∷ []) (with_worker s w c.0) next inside
-        ∙ worker_twice s w c.0 (counts t w n (worker_in (with_worker s w c.0) w))
-        ∙ ap (λ (x : Worker). with_worker s w (counts t w n x)) (worker_there s w c.0 within) in
+    count_times_run t readers w n (events ++ Update w ∷ []) (with_worker s w c.0) next inside
+    ∙ worker_twice s w c.0 (counts t w n (worker_in (with_worker s w c.0) w))
+    ∙ ap (λ (x : Worker). with_worker s w (counts t w n x)) (worker_there s w c.0 within) in
     rw reply (elim (is_waits c.1) as (λ b. lag_run t readers (if b then events ++ Update w ∷ [] else count_times t readers w n (events ++ Update w ∷ []))
-        ≡ with_worker s w (if b then c.0 else counts t w n c.0)) [ true ↦ next | false ↦ rest ])
+    ≡ with_worker s w (if b then c.0 else counts t w n c.0)) [ true ↦ next | false ↦ rest ])

@@ -1,5 +1,5 @@
 -- What one worker does of a run by itself: the other workers have no part in it.
-use Rattle.std.specs.Prelude.{ℕ, zero, suc, ◌+◌, ◌-◌, ◌*◌, ◌&&◌, ◌||◌, List, Bool, if◌then◌else◌, length, take, drop, min, nat_lt}
+use Rattle.std.specs.Prelude.{ℕ, zero, suc, ◌+◌, ◌-◌, ◌*◌, ◌||◌, List, Bool, if◌then◌else◌, length, take, drop, min, nat_lt}
 use Rattle.hash_rows.specs.declared.options.Options.{Options}
 use Rattle.hash_rows.specs.declared.shape.Push.{Push}
 use Rattle.push_history.specs.LagRun.{Terms, Worker, updates_by, count_step}

@@ -2,7 +2,7 @@
 use Rattle.std.specs.Prelude.{ℕ, ℤ, List, ◌==◌, map, filter, nat_lt}
 use Rattle.hash_rows.specs.declared.shape.Push.{Push}
 use Rattle.hash_rows.specs.Rules.{Rules}
-use Rattle.push_history.specs.Whole.{joined_of}
+use Rattle.hash_rows.specs.Sequential.{joined_of}
 
 -- the amounts for the cell
 abbrev pub amounts_for : ℕ → List Push → List ℤ

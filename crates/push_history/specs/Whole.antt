@@ -1,11 +1,8 @@
 -- What the updates of a worker make of a cell.
-use Rattle.std.specs.Prelude.{ℕ, ℤ, pos, List, ◌==◌, map, fold, filter, take}
+use Rattle.std.specs.Prelude.{ℕ, ℤ, List, ◌==◌, map, filter, take}
 use Rattle.hash_rows.specs.declared.shape.Update.{Update}
 use Rattle.hash_rows.specs.Rules.{Rules}
-
--- the join of some values; that of none is 0
-abbrev pub joined_of : Rules → List ℤ → ℤ
-joined_of r values = fold r.join (pos 0) values
+use Rattle.hash_rows.specs.Sequential.{joined_of}
 
 -- the values for the cell
 abbrev pub values_for : ℕ → List Update → List ℤ

@@ -75,6 +75,7 @@ impl<K: Kind> Private<K> {
         ensures due { (told whole : ℤ) → StandsAt K.stands self.old.held cell told whole
             → Owes K.rules self.old.threshold told (K.rules.join whole value) result }
         ensures marked { self.new.due ≡ option_map (λ _. cell) result }
+        ensures counted { self.new.counted ≡ self.old.counted + 1 }
         ensures stands { (packet : ℕ) (key : FlowKey) (updates : List Update) (messages : List Push) (refused : List ℕ)
             → StandsFor K.stands K.rules self.old updates messages refused
             → StandsFor K.stands K.rules self.new (updates ++ record { packet = packet; key = key; cell = cell; value = value } ∷ []) messages refused }

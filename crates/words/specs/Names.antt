@@ -1,5 +1,5 @@
 -- The names of the command line.
-use Rattle.std.specs.Prelude.{Bool, true, false, List, [], ◌∷◌, codes}
+use Rattle.std.specs.Prelude.{true, false, List, [], ◌∷◌, codes}
 use Rattle.words.specs.Grammar.{Name, Text}
 
 abbrev pub an_option : Text → Name

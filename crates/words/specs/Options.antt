@@ -1,5 +1,5 @@
 -- The commands that words give.
-use Rattle.std.specs.Prelude.{◌≡◌, ◌∷◌, ◌||◌, ℕ, Bool, true, not, List, Option, None, is_some, codes}
+use Rattle.std.specs.Prelude.{◌≡◌, ◌∷◌, ◌||◌, ℕ, Bool, true, not, List, None, is_some, codes}
 use Rattle.hash_rows.specs.Lawful.{IsRegisters}
 use Rattle.hash_rows.specs.OptionTexts.{amount_text, full_text, share_text, sketch_text}
 use Rattle.hash_rows.specs.declared.options.Amount.TheVariants.{Packets}
@@ -8,7 +8,7 @@ use Rattle.hash_rows.specs.declared.options.Mode.TheVariants.{Rounds}
 use Rattle.hash_rows.specs.declared.options.Options.{Options}
 use Rattle.hash_rows.specs.declared.options.Share.TheVariants.{Turn}
 use Rattle.hash_rows.specs.declared.options.Sketch.{Sketch}
-use Rattle.hash_rows.specs.declared.options.Sketch.TheVariants.{CountMin, CountSketch, LogLog}
+use Rattle.hash_rows.specs.declared.options.Sketch.TheVariants.{CountMin, LogLog}
 use Rattle.hash_rows.specs.declared.shape.Shape.{Shape}
 use Rattle.words.specs.Grammar.{IsLine, Part, Text, is_in, value_in}
 use Rattle.words.specs.Names.{line_names}

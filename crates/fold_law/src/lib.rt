@@ -1,0 +1,2 @@
+//! A law: what a fold of lawful messages holds of heavy keys is what a lawful journal may say of it.
+#![tactic(auto)]

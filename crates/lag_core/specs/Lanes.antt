@@ -1,0 +1,7 @@
+-- A bounded queue.
+use Rattle.std.specs.Prelude.{ℕ, List}
+use Rattle.hash_rows.specs.declared.shape.Push.{Push}
+
+pub record Queue : Type 0 where
+  pub messages : List Push
+  pub capacity : ℕ

@@ -1,0 +1,4 @@
+pub mod Lanes
+pub mod Sights
+pub mod Workers
+pub mod Lags
