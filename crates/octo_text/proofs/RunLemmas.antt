@@ -1,9 +1,9 @@
 -- Runs of set bits.
-use Rattle.std.proofs.Common.{eq-or-lt_of_le, inl, inr, ◌≡◌, ◌≢◌, ℕ, zero, suc, ◌+◌, ◌-◌, ◌<◌, ◌≤◌, ◌==◌, Bool, true, false, not, List, [], ◌∷◌, ◌++◌, length, drop, get_or, count_by, cond, true≢false, refl, sym, ap, subst, ◌∙◌, arith, add-one, if◌then◌else◌}
+use Rattle.std.proofs.Common.{eq-or-lt_of_le, inl, inr, ◌≡◌, ℕ, zero, suc, ◌+◌, ◌-◌, ◌<◌, ◌≤◌, ◌==◌, Bool, true, false, List, [], ◌∷◌, length, drop, get_or, count_by, cond, true≢false, refl, sym, ap, subst, ◌∙◌, arith, add-one, if◌then◌else◌}
 use Rattle.std.proofs.lemmas.List.Sums.{sum_by-cons}
 use Rattle.std.proofs.Math.Seq.{drop-cons}
 use Rattle.std.proofs.Math.ListN.{drop_of_length-le}
-use Rattle.hash_rows.specs.Marks.{marked_from, marked}
+use Rattle.hash_rows.specs.Marks.{marked_from}
 use Rattle.octo_text.specs.Runs.{joined, runs_of}
 
 -- the set bits from a place on
@@ -53,8 +53,8 @@ before_joined n m [] far =
 before_joined n m (run ∷ runs) far =
     let apart : (m == n + 1) ≡ false = grind arith in
     elim (run.0 == m + 1) as (λ (b : Bool). joined n (if b then (m, run.1) ∷ runs else (m, m) ∷ run ∷ runs) ≡ (n, n) ∷ (if b then (m, run.1) ∷ runs else (m, m) ∷ run ∷ runs)) [
-      true ↦ ap (λ (b : Bool). if b then (n, run.1) ∷ runs else (n, n) ∷ (m, run.1) ∷ runs) apart
-    | false ↦ ap (λ (b : Bool). if b then (n, m) ∷ run ∷ runs else (n, n) ∷ (m, m) ∷ run ∷ runs) apart
+      | true ↦ ap (λ (b : Bool). if b then (n, run.1) ∷ runs else (n, n) ∷ (m, run.1) ∷ runs) apart
+      | false ↦ ap (λ (b : Bool). if b then (n, m) ∷ run ∷ runs else (n, n) ∷ (m, m) ∷ run ∷ runs) apart
     ]
 
 before_runs : (n : ℕ) (ns : List ℕ) → StartsFrom (n + 2) ns → joined n (runs_of ns) ≡ (n, n) ∷ runs_of ns
@@ -66,8 +66,8 @@ last_set : (bits : List Bool) (start end : ℕ) → start + 1 ≡ end → end �
     → (end < length bits → get_or bits end false ≡ false) → joined start (runs_of (marked_behind end bits)) ≡ (start, start) ∷ runs_of (marked_behind end bits)
 last_set bits start end is within clear =
     before_runs start (marked_behind end bits) (elim (eq-or-lt_of_le within) [
-      inl at_end ↦ subst (λ (ns : List ℕ). StartsFrom (start + 2) ns) (sym (nothing_behind bits end at_end)) tt
-    | inr more ↦ subst (λ (ns : List ℕ). StartsFrom (start + 2) ns) (sym (at_clear bits end more (clear more))) (marked_starts (drop (end + 1) bits) (start + 2) (end + 1) (omega arith))
+      | inl at_end ↦ subst (λ (ns : List ℕ). StartsFrom (start + 2) ns) (sym (nothing_behind bits end at_end)) tt
+      | inr more ↦ subst (λ (ns : List ℕ). StartsFrom (start + 2) ns) (sym (at_clear bits end more (clear more))) (marked_starts (drop (end + 1) bits) (start + 2) (end + 1) (omega arith))
     ])
   where
     nothing_behind : (bits : List Bool) (end : ℕ) → end ≡ length bits → marked_behind end bits ≡ []
@@ -105,10 +105,10 @@ pub past_set : (bits : List Bool) (start end : ℕ) → start < length bits → 
     → (end < length bits → get_or bits end false ≡ false) → start < end
 past_set bits start end within set low clear =
     elim (eq-or-lt_of_le low) [
-      inl same ↦
-        let within_end : end < length bits = omega arith in
-        absurd (true≢false (sym set ∙ ap (λ (n : ℕ). get_or bits n false) same ∙ clear within_end))
-    | inr lt ↦ lt
+      | inl same ↦
+          let within_end : end < length bits = omega arith in
+          absurd (true≢false (sym set ∙ ap (λ (n : ℕ). get_or bits n false) same ∙ clear within_end))
+      | inr lt ↦ lt
     ]
 
 -- the run from a set bit on, and the runs from the next set bit on

@@ -1,5 +1,5 @@
 -- The workers of a journal, one after another.
-use Rattle.std.proofs.Common.{◌≡◌, ℕ, ◌+◌, ◌<◌, Bool, List, [], length, get_or, map, ap, sym, ◌∙◌, zero-add, arith}
+use Rattle.std.proofs.Common.{◌≡◌, ℕ, ◌<◌, Bool, List, [], length, get_or, map, ap, sym, ◌∙◌, zero-add, arith}
 use Rattle.std.specs.List.{enumerate_from, zip}
 use Rattle.std.proofs.lemmas.List.{length-map, get_or-map}
 use Rattle.std.proofs.lemmas.List.FromFn.{length-enumerate_from, get_or-enumerate_from}
@@ -23,9 +23,9 @@ worker_at pushes refused w bits same within item =
     let many : w < length (map marked refused) = omega (arith, length-map refused marked) in
     let zipped : w < length (zip pushes (map marked refused)) = omega (arith, length-zip pushes (map marked refused)) in
     let marks : get_or (map marked refused) w [] ≡ marked bits =
-        get_or-map marked refused w bits [] (omega arith) ∙ ap marked (sym item) in
+    get_or-map marked refused w bits [] (omega arith) ∙ ap marked (sym item) in
     let pair : get_or (zip pushes (map marked refused)) w (0, []) ≡ (get_or pushes w 0, marked bits) =
-        get_or-zip pushes (map marked refused) w (0, []) within many ∙ ap (λ (ns : List ℕ). (get_or pushes w 0, ns)) marks in
+    get_or-zip pushes (map marked refused) w (0, []) within many ∙ ap (λ (ns : List ℕ). (get_or pushes w 0, ns)) marks in
     sym (get_or-enumerate_from 0 (zip pushes (map marked refused)) w no_worker zipped
-        ∙ ap (λ (n : ℕ). (n, get_or (zip pushes (map marked refused)) w (0, []))) (zero-add w)
-        ∙ ap (λ (p : ℕ × List ℕ). (w, p)) pair)
+    ∙ ap (λ (n : ℕ). (n, get_or (zip pushes (map marked refused)) w (0, []))) (zero-add w)
+    ∙ ap (λ (p : ℕ × List ℕ). (w, p)) pair)

@@ -79,7 +79,12 @@ fn single(alloc: Global, key: FlowKey) -> Result<Report, NoMemory> {
     Ok(report)
 }
 
-fn check_report<R: Abort>(rt: &R, alloc: Global, report: &Report, text: &str) -> Result<(), NoMemory> {
+fn check_report<R: Abort>(
+    rt: &R,
+    alloc: Global,
+    report: &Report,
+    text: &str,
+) -> Result<(), NoMemory> {
     let mut sink = MemSink::new(alloc, 4096, &[])?;
     assert_eq!(rt; write_report(&mut sink, report), Ok(()));
     assert_eq!(rt; sink.held(), text.as_bytes());
@@ -204,8 +209,16 @@ fn a_failing_write_leaves_the_lines_before(rt: HostRuntime) -> Result<(), Fail> 
     let report = single(alloc, key(1234, 443, 6))?;
     for line in 0..15 {
         let mut sink = MemSink::new(alloc, 4096, &[line])?;
-        assert_eq!(rt; write_report(&mut sink, &report), Err(Failed), "line {line}");
-        assert_eq!(rt; sink.held(), first_lines(SINGLE.as_bytes(), line), "line {line}");
+        assert_eq!(rt;
+            write_report(&mut sink, &report),
+            Err(Failed),
+            "line {line}"
+        );
+        assert_eq!(rt;
+            sink.held(),
+            first_lines(SINGLE.as_bytes(), line),
+            "line {line}"
+        );
     }
     let mut sink = MemSink::new(alloc, 4096, &[15])?;
     assert_eq!(rt; write_report(&mut sink, &report), Ok(()));
@@ -296,7 +309,12 @@ fn answer(
     })
 }
 
-fn check_journal<R: Abort>(rt: &R, alloc: Global, journal: &Journal, text: &str) -> Result<(), NoMemory>
+fn check_journal<R: Abort>(
+    rt: &R,
+    alloc: Global,
+    journal: &Journal,
+    text: &str,
+) -> Result<(), NoMemory>
     requires { IsComplete journal.now }
 {
     let mut sink = MemSink::new(alloc, 4096, &[])?;

@@ -23,7 +23,12 @@ fn write_tally<T: Sink>(out: &mut T, worker: usize, pushes: u64, refused: u32) -
 }
 
 // Writes a worker's line and, behind it, the runs of its refused updates.
-fn write_worker<T: Sink>(out: &mut T, worker: usize, pushes: u64, refused: &Bits) -> Result<(), Failed>
+fn write_worker<T: Sink>(
+    out: &mut T,
+    worker: usize,
+    pushes: u64,
+    refused: &Bits,
+) -> Result<(), Failed>
     ensures writes { Writes (T.holds out.old) (T.holds out.new) (worker_lines (worker, (pushes, marked refused.now))) result }
     ensures cause { HasCause (T.faults out.old) (T.faults out.new) result }
 {
@@ -32,7 +37,11 @@ fn write_worker<T: Sink>(out: &mut T, worker: usize, pushes: u64, refused: &Bits
 }
 
 /// Writes the lines of all workers.
-pub(crate) fn write_workers<T: Sink>(out: &mut T, pushes: &[u64], refused: &[Bits]) -> Result<(), Failed>
+pub(crate) fn write_workers<T: Sink>(
+    out: &mut T,
+    pushes: &[u64],
+    refused: &[Bits],
+) -> Result<(), Failed>
     requires { length pushes.now ≡ length refused.now }
     ensures writes { Writes (T.holds out.old) (T.holds out.new) (flat_map worker_lines (enumerate_from 0 (zip pushes.now (map marked refused.now)))) result }
     ensures cause { HasCause (T.faults out.old) (T.faults out.new) result }

@@ -1,4 +1,4 @@
-use Rattle.std.proofs.Common.{◌≤◌, take, map, Ok}
+use Rattle.std.proofs.Common.{◌≤◌, take, Ok}
 use Rattle.std.specs.List.{flat_map}
 use Rattle.flow_base.specs.Writing.{Writes}
 use Rattle.flow_base.specs.declared.flow.Failed.{Failed}

@@ -8,7 +8,7 @@ pub returns-in_err-write_options-clause-writes : goal.returns-in_err-write_optio
 unfolding terms_lines with_journal
 returns-in_err-write_options-clause-writes g c =
     writes_front _ _ _ _ c.from_residual.ensures.0
-        (stop _ (rw (same_options c.args.options.now) at c.in_err-write_options.ensures.writes).err)
+    (stop _ (rw (same_options c.args.options.now) at c.in_err-write_options.ensures.writes).err)
 
 pub returns-clause-writes : goal.returns-clause-writes
 unfolding terms_lines with_journal

@@ -6,13 +6,13 @@ pub returns-in_err-write_estimates-clause-writes : goal.returns-in_err-write_est
 unfolding flow_lines
 returns-in_err-write_estimates-clause-writes g c =
     writes_front _ _ _ _ c.from_residual.ensures.0
-        (stop _ (stop _ (rw c.as_slice.ensures at c.in_err-write_estimates.ensures.writes).err))
+    (stop _ (stop _ (rw c.as_slice.ensures at c.in_err-write_estimates.ensures.writes).err))
 
 pub returns-in_err-write_count-clause-writes : goal.returns-in_err-write_count-clause-writes
 unfolding flow_lines
 returns-in_err-write_count-clause-writes g c =
     writes_front _ _ _ _ c.from_residual-in_err-write_count.ensures.0
-        (stop _ (then_stop (rw c.as_slice.ensures at c.in_ok-write_estimates.ensures.writes) c.in_err-write_count.ensures.writes.err))
+    (stop _ (then_stop (rw c.as_slice.ensures at c.in_ok-write_estimates.ensures.writes) c.in_err-write_count.ensures.writes.err))
 
 pub returns-clause-writes : goal.returns-clause-writes
 unfolding flow_lines

@@ -21,15 +21,16 @@ returns-in_err-write_row-clause-writes g c =
     let used = c.args.used.now in
     let row = c.loop-row.row in
     writes_item_stop row_line (enumerate_from 0 used) row (0, 0) c.from_residual.result (within used row c.loop-row-test.true) c.from_residual.ensures.0 c.loop-row.invariant.0
-        (subst (λ (x : ℕ × ℕ). Writes {T = Unit {0}} {E = Failed} (g.T.Sink.holds c.loop-row.out) (g.T.Sink.holds c.write_row.new.out) (row_line x) (Err c.in_err-write_row.field-0.0)) (row_is used row c.loop-row-test.true) c.in_err-write_row.ensures.writes)
+    (subst (λ (x : ℕ × ℕ). Writes {T = Unit {0}} {E = Failed} (g.T.Sink.holds c.loop-row.out) (g.T.Sink.holds c.write_row.new.out) (row_line x) (Err c.in_err-write_row.field-0.0)) (row_is used row c.loop-row-test.true) c.in_err-write_row.ensures.writes)
 
 pub loop-row-preserved : goal.loop-row-preserved
 loop-row-preserved g c =
     let used = c.args.used.now in
-    let row = c.loop-row.row in
-    (writes_item row_line (enumerate_from 0 used) row (0, 0) tt (within used row c.loop-row-test.true) c.loop-row.invariant.0
-        (subst (λ (x : ℕ × ℕ). Writes {T = Unit {0}} {E = Failed} (g.T.Sink.holds c.loop-row.out) (g.T.Sink.holds c.write_row.new.out) (row_line x) (Ok c.in_ok-write_row.field-0)) (row_is used row c.loop-row-test.true) c.in_ok-write_row.ensures.writes),
-      omega (arith, c.in_ok-write_row.ensures.cause.later))
+    let row = c.loop-row.row in (
+      writes_item row_line (enumerate_from 0 used) row (0, 0) tt (within used row c.loop-row-test.true) c.loop-row.invariant.0
+          (subst (λ (x : ℕ × ℕ). Writes {T = Unit {0}} {E = Failed} (g.T.Sink.holds c.loop-row.out) (g.T.Sink.holds c.write_row.new.out) (row_line x) (Ok c.in_ok-write_row.field-0)) (row_is used row c.loop-row-test.true) c.in_ok-write_row.ensures.writes),
+      omega (arith, c.in_ok-write_row.ensures.cause.later),
+    )
 
 pub returns-clause-writes : goal.returns-clause-writes
 returns-clause-writes g c =
