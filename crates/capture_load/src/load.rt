@@ -1,6 +1,6 @@
 ghost use Rattle.std.specs.Prelude.{◌≡◌, ◌≤◌, ℕ, [], List, IfOk, IfErr, OnOk, IsErrOf, MatchResult, ◌+◌, length};
 ghost use Rattle.flow_base.specs.Causes.{Rose};
-ghost use Rattle.flow_base.specs.Flow.{Given};
+ghost use Rattle.flow_base.specs.Flow.{Given, behind};
 ghost use Rattle.capture_load.specs.Loads.{Counts, EndsIn, HoldsRefusal, IsLoaded, Loads};
 ghost use Rattle.pcap_read.specs.declared.bad.Bad.{Bad};
 ghost use Rattle.pcap_read.specs.Capture.{RefusesNext};
@@ -32,6 +32,7 @@ pub fn load_capture<S: Source>(
     ensures unrefused { IsErrOf result LoadStop.ReadFault → (frames : List Framed) (bad : Bad) → Given (S.left source.old) (S.left source.new)
         (λ given rest. RefusesNext 16777216 given frames bad → ⊥) }
     ensures few { IfOk result (λ capture. length capture.packets.items ≤ 16777216) }
+    ensures front { (given : List ℕ) × (S.left source.old ≡ behind given (S.left source.new)) }
     ensures later { S.faults source.old ≤ S.faults source.new }
 {
     let mut loading = begin(alloc, amount)?;

@@ -8,5 +8,5 @@ mod run;
 mod tell;
 
 pub use capture_load::{Capture, GenSource, LoadStop, load_capture};
-pub use run::octo_rounds;
+pub use run::{octo, octo_rounds};
 pub use words::{Command, WordStop, read_words};

@@ -46,3 +46,18 @@ returns-clause-fine g c =
     let was = inv.2 ∙ ap (behind inv.0) left in
     let done = subst (λ a. MatchResult c.finish.result (IsLoaded a inv.0) (EndsIn inv.0)) c.loop-loading.invariant.3 (c.finish.ensures.ends inv.0 inv.1 inv.3) in
     ends_fine (g.S.Source.left c.args.source.now) (g.S.Source.left c.read.new.self) inv.0 c.args.amount was c.finish.result done
+
+pub returns-in-Err-clause-front : goal.returns-in-Err-clause-front
+returns-in-Err-clause-front g c = let inv = c.loop-loading.invariant.2 in (inv.0, inv.2 ∙ ap (behind inv.0) (sym c.in-Err.ensures.err))
+
+pub returns-in-Err-feed-clause-front : goal.returns-in-Err-feed-clause-front
+returns-in-Err-feed-clause-front g c =
+    let inv = c.loop-loading.invariant.2 in
+    let piece = take c.in-Ok.count c.read.new.buf in
+    (inv.0 ++ piece, inv.2 ∙ ap (behind inv.0) c.in-Ok.ensures.given ∙ behind-append inv.0 piece (g.S.Source.left c.read.new.self))
+
+pub returns-clause-front : goal.returns-clause-front
+returns-clause-front g c =
+    let inv = c.loop-loading.invariant.2 in
+    let left = ended (g.S.Source.left c.loop-loading.source) (g.S.Source.left c.read.new.self) c.in-Ok-eq0.field-0 c.read.new.buf c.in-Ok-eq0.field-0-test c.in-Ok-eq0.ensures.given in
+    (inv.0, inv.2 ∙ ap (behind inv.0) left)
