@@ -1,7 +1,7 @@
 -- What a lawful journal says of the live keys of a fold.
-use Rattle.std.proofs.Common.{◌≡◌, ◌≢◌, ◌<◌, ◌≤◌, ◌≤ℤ◌, ℕ, ℤ, zero, suc, ◌+◌, ◌==◌, pos, List, [], ◌∷◌, ◌++◌, length, get_or, take, Bool, true, false, not, ◌&&◌, ◌||◌, if◌then◌else◌, refl, sym, ap, ap₂, ◌∙◌, subst, arith, inl, inr}
+use Rattle.std.proofs.Common.{◌≡◌, ◌<◌, ◌≤◌, ◌≤ℤ◌, ℕ, ℤ, zero, suc, ◌==◌, pos, List, [], ◌∷◌, length, get_or, take, Bool, true, false, not, ◌&&◌, ◌||◌, if◌then◌else◌, refl, sym, ap, ◌∙◌, subst, arith, inl, inr}
 use Rattle.std.specs.Prelude.{filter, map, int_le, All, Contains}
-use Rattle.std.specs.List.{flat_map, range_with_len, list_any, AllByRecursion, IsDistinct}
+use Rattle.std.specs.List.{list_any, AllByRecursion, IsDistinct}
 use Rattle.std.proofs.lemmas.Bool.{cases_lt}
 use Rattle.std.proofs.lemmas.List.{take_all, take_more, get_or_past, get_or-map, length-map}
 use Rattle.std.proofs.lemmas.List.Elements.{All-from_recursion, filter_passes}
@@ -10,7 +10,6 @@ use Rattle.packet_key.specs.declared.key.FlowKey.{FlowKey}
 use Rattle.packet_key.specs.contracts.key.FlowKeyEq.TheImpl.Laws.{laws-law}
 use Rattle.hash_rows.specs.declared.options.Options.{Options}
 use Rattle.hash_rows.specs.declared.options.Sketch.{Sketch}
-use Rattle.hash_rows.specs.declared.options.Sketch.TheVariants.{CountMin, LogLog}
 use Rattle.hash_rows.specs.declared.shape.Flow.{Flow}
 use Rattle.hash_rows.specs.declared.shape.Push.{Push}
 use Rattle.hash_rows.specs.declared.shape.Shape.{Shape}
@@ -20,13 +19,13 @@ use Rattle.hash_rows.proofs.EqualKeys.{same_key-eq}
 use Rattle.push_history.specs.Share.{zero_key}
 use Rattle.push_history.specs.Front.{message_at, messages_of}
 use Rattle.push_history.specs.Journal.{rules_in}
-use Rattle.push_history.specs.LawfulJournal.{all_of, sent_by, not_live, IsLiveTable, IsGrowingTable, OnlyOf, estimate_on_all, sure_missed, possible_missed}
-use Rattle.push_history.specs.LiveHeavy.{is_among, live_of, missed_of, live_keys, missed_keys, note_at, notes_of, qualifying}
+use Rattle.push_history.specs.LawfulJournal.{all_of, sent_by, not_live, IsLiveTable, IsGrowingTable, OnlyOf, estimate_on_all}
+use Rattle.push_history.specs.LiveHeavy.{is_among, live_of, missed_of, note_at, notes_of}
 use Rattle.push_history.specs.Shown.{told_cells}
 use Rattle.push_history.proofs.Lists.{filter_kept, some_passes}
 use Rattle.push_history.proofs.Notes.{note_by}
 use Rattle.fold_law.specs.Folds.{IsFoldOf}
-use Rattle.fold_law.proofs.Steps.{count, one_if, steps, steps_le}
+use Rattle.fold_law.proofs.Steps.{count, steps, steps_le}
 use Rattle.fold_law.proofs.Live.{live_distinct, live_most, live_room, live_all, missed_count, count_all, count_own, count_notes}
 
 get_or_any : (xs : List Push) (k : ℕ) (d : Push) → k < length xs → message_at xs k ≡ get_or xs k d
@@ -74,7 +73,7 @@ unfolding notes_of note_at
 note_is r shape H k d lt =
     get_or-map-range_with_len (note_at r shape H) 0 (length H) k k d lt (omega arith)
     ∙ ap (λ (t : List Push). record { key = (message_at H k).key; estimate = r.estimate shape (told_cells r shape t) (message_at H k).key })
-      (take_more H k (record { worker = 0; packet = 0; update = 0; key = zero_key; cell = 0; amount = pos 0 }) lt)
+    (take_more H k (record { worker = 0; packet = 0; update = 0; key = zero_key; cell = 0; amount = pos 0 }) lt)
 
 notes_length : (r : Rules) (shape : Shape) (H : List Push) → length (notes_of r shape H) ≡ length H
 unfolding notes_of
@@ -114,18 +113,18 @@ module _ (o : Options) (messages : List (List Push)) (H : List Push) (h : IsFold
   live_there =
       live_all (λ key. Contains (map (λ m. m.key) (all_of messages)) key) o.heavy o.least (notes_of (rules_in o) o.shape H)
       (λ k d lt is.
-        let within : k < length H = omega (arith, lt, notes_length (rules_in o) o.shape H) in
-        let key : FlowKey = (message_at H k).key in
-        let some : 1 ≤ steps (λ T m. same_key m.key key) H (length H) = steps_some (λ T m. same_key m.key key) H (length H) k within (laws-law.refl key) in
-        let counted = count_all messages H h (λ m. same_key m.key key) in
-        subst (λ (f : Flow). Contains (map (λ m. m.key) (all_of messages)) f.key) (sym (note_is (rules_in o) o.shape H k d within)) (key_there (all_of messages) key (omega (arith, some, counted))))
+      let within : k < length H = omega (arith, lt, notes_length (rules_in o) o.shape H) in
+      let key : FlowKey = (message_at H k).key in
+      let some : 1 ≤ steps (λ T m. same_key m.key key) H (length H) = steps_some (λ T m. same_key m.key key) H (length H) k within (laws-law.refl key) in
+      let counted = count_all messages H h (λ m. same_key m.key key) in
+      subst (λ (f : Flow). Contains (map (λ m. m.key) (all_of messages)) f.key) (sym (note_is (rules_in o) o.shape H k d within)) (key_there (all_of messages) key (omega (arith, some, counted))))
 
   missed_few : missed_of o.heavy o.least (notes_of (rules_in o) o.shape H) ≤ length (not_live (live_of o.heavy o.least (notes_of (rules_in o) o.shape H)) (all_of messages))
   missed_few =
       let L : List FlowKey = live_of o.heavy o.least (notes_of (rules_in o) o.shape H) in
       let by_steps = missed_steps (rules_in o) o.shape o.heavy o.least H in
       let fewer = steps_le (λ T m. int_le o.least (note_by (rules_in o) o.shape T m).estimate && not (is_among L (note_by (rules_in o) o.shape T m).key)) (λ T m. not (is_among L m.key)) H (length H) (omega arith)
-        (λ i lt is. and_right (int_le o.least (note_by (rules_in o) o.shape (take i H) (message_at H i)).estimate) (not (is_among L (message_at H i).key)) is) in
+      (λ i lt is. and_right (int_le o.least (note_by (rules_in o) o.shape (take i H) (message_at H i)).estimate) (not (is_among L (message_at H i).key)) is) in
       let counted = count_all messages H h (λ m. not (is_among L m.key)) in
       omega (arith, by_steps, fewer, counted)
 
@@ -154,7 +153,7 @@ module _ (o : Options) (messages : List (List Push)) (H : List Push) (h : IsFold
   only_fold w only = elim (cases_lt w (length messages)) [
     | inl inside ↦ (let own : messages_of w H ≡ sent_by messages w = h.in_order w inside in
         let none : count (λ m. not (m.worker == w)) (all_of messages) ≡ 0 = ap (count (λ m. not (m.worker == w))) (only ∙ sym own)
-          ∙ none_counted (λ m. not (m.worker == w)) (messages_of w H) (λ k d lt. let is = filter_passes (λ m. m.worker == w) H k d lt in ap not is) in
+        ∙ none_counted (λ m. not (m.worker == w)) (messages_of w H) (λ k d lt. let is = filter_passes (λ m. m.worker == w) H k d lt in ap not is) in
         let counted = count_all messages H h (λ m. not (m.worker == w)) in
         sym (filter_kept (λ m. m.worker == w) H (each_of H (λ m. m.worker == w) (omega (arith, none, counted)))) ∙ own)
     | inr past ↦ (let nothing : sent_by messages w ≡ [] = get_or_past messages w [] past in
@@ -173,6 +172,7 @@ module _ (o : Options) (messages : List (List Push)) (H : List Push) (h : IsFold
               let passes : not (p (message_at H k)) ≡ true = ap (λ (m : Push). not (p m)) same ∙ ap not is in
               let some = steps_some (λ T m. not (p m)) H (length H) k lt passes in
               absurd (omega (arith, some, none))
+
       no_steps : (H : List Push) → steps (λ T m. true) H (length H) ≡ 0 → H ≡ []
       no_steps [] none = refl
       no_steps (x ∷ xs) none = absurd (let some = steps_some (λ T m. true) (x ∷ xs) (length (x ∷ xs)) 0 (omega arith) refl in omega (arith, some, none))
@@ -188,34 +188,36 @@ module _ (o : Options) (messages : List (List Push)) (H : List Push) (h : IsFold
       let by_steps = missed_steps r o.shape o.heavy o.least H in
       let sure_counted = count_own messages H h r o.shape (λ note. int_le o.least note.estimate && not (is_among L note.key)) in
       let sure_less = steps_le
-        (λ T m. int_le o.least (note_by r o.shape (messages_of m.worker T) m).estimate && not (is_among L m.key))
-        (λ T m. int_le o.least (note_by r o.shape T m).estimate && not (is_among L m.key)) H (length H) (omega arith)
-        (λ i lt is. and_both (int_le o.least (note_by r o.shape (take i H) (message_at H i)).estimate) (not (is_among L (message_at H i).key))
-          (int_le_more o.least _ _ (and_left (int_le o.least (note_by r o.shape (messages_of (message_at H i).worker (take i H)) (message_at H i)).estimate) (not (is_among L (message_at H i).key)) is) (own i lt))
-          (and_right (int_le o.least (note_by r o.shape (messages_of (message_at H i).worker (take i H)) (message_at H i)).estimate) (not (is_among L (message_at H i).key)) is)) in
+      (λ T m. int_le o.least (note_by r o.shape (messages_of m.worker T) m).estimate && not (is_among L m.key))
+      (λ T m. int_le o.least (note_by r o.shape T m).estimate && not (is_among L m.key)) H (length H) (omega arith)
+      (λ i lt is. and_both (int_le o.least (note_by r o.shape (take i H) (message_at H i)).estimate) (not (is_among L (message_at H i).key))
+      (int_le_more o.least _ _ (and_left (int_le o.least (note_by r o.shape (messages_of (message_at H i).worker (take i H)) (message_at H i)).estimate) (not (is_among L (message_at H i).key)) is) (own i lt))
+      (and_right (int_le o.least (note_by r o.shape (messages_of (message_at H i).worker (take i H)) (message_at H i)).estimate) (not (is_among L (message_at H i).key)) is)) in
       let possible_counted = count_all messages H h (λ m. not (is_among L m.key) && int_le o.least (estimate_on_all o messages m.key)) in
       let possible_more = steps_le
-        (λ T m. int_le o.least (note_by r o.shape T m).estimate && not (is_among L m.key))
-        (λ T m. not (is_among L m.key) && int_le o.least (estimate_on_all o messages m.key)) H (length H) (omega arith)
-        (λ i lt is. and_both (not (is_among L (message_at H i).key)) (int_le o.least (estimate_on_all o messages (message_at H i).key))
-          (and_right (int_le o.least (note_by r o.shape (take i H) (message_at H i)).estimate) (not (is_among L (message_at H i).key)) is)
-          (int_le_more o.least _ _ (and_left (int_le o.least (note_by r o.shape (take i H) (message_at H i)).estimate) (not (is_among L (message_at H i).key)) is) (all i lt))) in
+      (λ T m. int_le o.least (note_by r o.shape T m).estimate && not (is_among L m.key))
+      (λ T m. not (is_among L m.key) && int_le o.least (estimate_on_all o messages m.key)) H (length H) (omega arith)
+      (λ i lt is. and_both (not (is_among L (message_at H i).key)) (int_le o.least (estimate_on_all o messages (message_at H i).key))
+      (and_right (int_le o.least (note_by r o.shape (take i H) (message_at H i)).estimate) (not (is_among L (message_at H i).key)) is)
+      (int_le_more o.least _ _ (and_left (int_le o.least (note_by r o.shape (take i H) (message_at H i)).estimate) (not (is_among L (message_at H i).key)) is) (all i lt))) in
       record {
         reach = All-from_recursion (λ key. o.least ≤ℤ estimate_on_all o messages key) L
             (live_all (λ key. o.least ≤ℤ estimate_on_all o messages key) o.heavy o.least (notes_of r o.shape H)
             (λ k d lt is.
-              let within : k < length H = omega (arith, lt, notes_length r o.shape H) in
-              let same : get_or (notes_of r o.shape H) k d ≡ note_by r o.shape (take k H) (message_at H k) = note_is r o.shape H k d within in
-              subst (λ (f : Flow). o.least ≤ℤ estimate_on_all o messages f.key) (sym same)
-              (int_le_is o.least _ (int_le_more o.least _ _ (ap (λ (f : Flow). int_le o.least f.estimate) (sym same) ∙ is) (all k within)))));
+            let within : k < length H = omega (arith, lt, notes_length r o.shape H) in
+            let same : get_or (notes_of r o.shape H) k d ≡ note_by r o.shape (take k H) (message_at H k) = note_is r o.shape H k d within in
+            subst (λ (f : Flow). o.least ≤ℤ estimate_on_all o messages f.key) (sym same)
+            (int_le_is o.least _ (int_le_more o.least _ _ (ap (λ (f : Flow). int_le o.least f.estimate) (sym same) ∙ is) (all k within)))));
         sure = omega (arith, by_steps, sure_counted, sure_less);
         possible = omega (arith, by_steps, possible_counted, possible_more, ap length (filter_twice (λ m. int_le o.least (estimate_on_all o messages m.key)) (λ m. not (is_among L m.key)) (all_of messages)));
       }
     where
       int_le_is : (a b : ℤ) → int_le a b ≡ true → a ≤ℤ b
       int_le_is a b is = grind arith
+
       int_le_more : (a b c : ℤ) → int_le a b ≡ true → b ≤ℤ c → int_le a c ≡ true
       int_le_more a b c is le = let first : a ≤ℤ b = int_le_is a b is in grind arith
+
       filter_twice : (q p : Push → Bool) (xs : List Push) → filter q (filter p xs) ≡ filter (λ m. p m && q m) xs
       filter_twice q p [] = refl
       filter_twice q p (x ∷ xs) = by (p x) (filter_twice q p xs)

@@ -1,36 +1,28 @@
 -- Estimates of Count-Min only grow as messages come.
-use Rattle.std.proofs.Common.{◌≡◌, ◌<◌, ◌≤◌, ◌≤ℤ◌, ℕ, ℤ, zero, suc, ◌+◌, ◌^◌, ◌==◌, pos, List, [], ◌∷◌, ◌++◌, length, get_or, take, Bool, true, false, not, if◌then◌else◌, refl, sym, ap, ap₂, ◌∙◌, subst, arith, inl, inr}
-use Rattle.std.specs.Prelude.{filter, map, fold, All, sum_by, unsigned_abs}
+use Rattle.std.proofs.Common.{◌≡◌, ◌<◌, ◌≤◌, ◌≤ℤ◌, ℕ, ℤ, ◌+◌, ◌^◌, ◌==◌, pos, List, [], ◌∷◌, ◌++◌, length, get_or, take, Bool, true, not, if◌then◌else◌, refl, sym, ap, ◌∙◌, subst, arith, inl, inr}
+use Rattle.std.specs.Prelude.{filter, map, fold, All, unsigned_abs}
 use Rattle.std.specs.Int.{int_min}
-use Rattle.std.specs.List.{flat_map, range_with_len}
+use Rattle.std.specs.List.{range_with_len}
 use Rattle.std.proofs.lemmas.Int.{ints, clamps}
 use Rattle.std.proofs.lemmas.Bool.{cases_lt}
-use Rattle.std.proofs.lemmas.List.{get_or_past, take_more, take_all}
+use Rattle.std.proofs.lemmas.List.{get_or_past, take_more}
 use Rattle.std.proofs.lemmas.List.Elements.{All-filter, All-take}
 use Rattle.std.proofs.lemmas.List.Filters.{sum_by-filter_both}
 use Rattle.std.proofs.lemmas.List.FromFn.{get_or-map-range_with_len, length-map-range_with_len}
 use Rattle.std.proofs.lemmas.List.Sums.{sum_by-take-le}
 use Rattle.packet_key.specs.declared.key.FlowKey.{FlowKey}
-use Rattle.hash_rows.specs.Amounts.{total_amount}
-use Rattle.hash_rows.specs.declared.options.Options.{Options}
-use Rattle.hash_rows.specs.declared.options.Share.{Share}
-use Rattle.hash_rows.specs.declared.shape.Packet.{Packet}
 use Rattle.hash_rows.specs.declared.shape.Push.{Push}
 use Rattle.hash_rows.specs.declared.shape.Shape.{Shape}
-use Rattle.hash_rows.specs.Rules.{Rules}
-use Rattle.hash_rows.specs.Shapes.{IsShape, place_of, size_of}
+use Rattle.hash_rows.specs.Shapes.{place_of, size_of}
 use Rattle.hash_rows.specs.Sketches.{is_sum, least_of, count_min_estimate, key_cells, rows_of}
 use Rattle.hash_rows.specs.Tables.{value_at}
-use Rattle.hash_rows.proofs.Places.{place_within}
 use Rattle.hash_rows.proofs.SumLaws.{count_min_lawful}
 use Rattle.count_min.proofs.NeverBelow.{amount_sum}
-use Rattle.push_history.specs.Share.{share_of_worker, zero_key}
+use Rattle.push_history.specs.Share.{zero_key}
 use Rattle.push_history.specs.Front.{message_at, messages_of}
-use Rattle.push_history.specs.LawfulJournal.{all_of, sent_by}
-use Rattle.push_history.specs.Pushes.{ArePushes}
+use Rattle.push_history.specs.LawfulJournal.{all_of}
 use Rattle.push_history.specs.Shown.{told_cells}
 use Rattle.push_history.specs.Told.{told_of}
-use Rattle.push_history.specs.Updates.{updates_of}
 use Rattle.push_history.proofs.Folded.{told_by_workers}
 use Rattle.push_history.proofs.Lists.{filter_push_yes}
 use Rattle.push_history.proofs.Notes.{note_by}
@@ -97,10 +89,10 @@ module _ (messages : List (List Push)) (H : List Push) (fold : IsFoldOf messages
       let own : messages_of w (take i H) ++ m ∷ [] ≡ messages_of w (take (i + 1) H) = sym (filter_push_yes (λ x. x.worker == w) (take i H) m same) ∙ ap (messages_of w) (next_front i lt) in
       estimate_le shape (messages_of w (take i H) ++ m ∷ []) (take i H ++ m ∷ []) m.key
       (λ cell.
-        let x : told_of count_min cell (messages_of w (take i H) ++ m ∷ []) ≡ pos (plain_told cell (messages_of w (take (i + 1) H))) = ap (told_of count_min cell) own ∙ kept_is (λ x. x.worker == w) cell (i + 1) in
-        let y : told_of count_min cell (take i H ++ m ∷ []) ≡ pos (plain_told cell (take (i + 1) H)) = ap (told_of count_min cell) (next_front i lt) ∙ front_is cell (i + 1) in
-        let less = kept_less (λ x. x.worker == w) cell (i + 1) in
-        subst (λ (z : ℤ). z ≤ℤ told_of count_min cell (take i H ++ m ∷ [])) (sym x) (subst (λ (z : ℤ). pos (plain_told cell (messages_of w (take (i + 1) H))) ≤ℤ z) (sym y) (omega (arith, ints, less))))
+      let x : told_of count_min cell (messages_of w (take i H) ++ m ∷ []) ≡ pos (plain_told cell (messages_of w (take (i + 1) H))) = ap (told_of count_min cell) own ∙ kept_is (λ x. x.worker == w) cell (i + 1) in
+      let y : told_of count_min cell (take i H ++ m ∷ []) ≡ pos (plain_told cell (take (i + 1) H)) = ap (told_of count_min cell) (next_front i lt) ∙ front_is cell (i + 1) in
+      let less = kept_less (λ x. x.worker == w) cell (i + 1) in
+      subst (λ (z : ℤ). z ≤ℤ told_of count_min cell (take i H ++ m ∷ [])) (sym x) (subst (λ (z : ℤ). pos (plain_told cell (messages_of w (take (i + 1) H))) ≤ℤ z) (sym y) (omega (arith, ints, less))))
 
   amounts_are : All (λ m. is_sum m.amount ≡ true) H
   amounts_are = λ k d lt.
@@ -124,6 +116,6 @@ module _ (messages : List (List Push)) (H : List Push) (fold : IsFoldOf messages
       let m : Push = message_at H i in
       estimate_le shape (take i H ++ m ∷ []) (all_of messages) m.key
       (λ cell.
-        let x : told_of count_min cell (take i H ++ m ∷ []) ≡ pos (plain_told cell (take (i + 1) H)) = ap (told_of count_min cell) (next_front i lt) ∙ front_is cell (i + 1) in
-        let less = sum_by-take-le (λ m. if m.cell == cell then unsigned_abs m.amount else 0) H (i + 1) in
-        subst (λ (z : ℤ). z ≤ℤ told_of count_min cell (all_of messages)) (sym x) (subst (λ (z : ℤ). pos (plain_told cell (take (i + 1) H)) ≤ℤ z) (sym (all_is cell)) (omega (arith, ints, less))))
+      let x : told_of count_min cell (take i H ++ m ∷ []) ≡ pos (plain_told cell (take (i + 1) H)) = ap (told_of count_min cell) (next_front i lt) ∙ front_is cell (i + 1) in
+      let less = sum_by-take-le (λ m. if m.cell == cell then unsigned_abs m.amount else 0) H (i + 1) in
+      subst (λ (z : ℤ). z ≤ℤ told_of count_min cell (all_of messages)) (sym x) (subst (λ (z : ℤ). pos (plain_told cell (take (i + 1) H)) ≤ℤ z) (sym (all_is cell)) (omega (arith, ints, less))))

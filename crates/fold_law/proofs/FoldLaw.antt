@@ -1,5 +1,5 @@
 -- A fold of lawful messages is lawful.
-use Rattle.std.proofs.Common.{◌≡◌, ◌<◌, ◌≤ℤ◌, ℕ, ◌^◌, List, [], length, take, true, refl, sym, ap, ◌∙◌, subst, arith}
+use Rattle.std.proofs.Common.{◌≡◌, ◌<◌, ◌≤ℤ◌, ℕ, ◌^◌, List, [], length, take, true, refl, sym, ap, subst, arith}
 use Rattle.std.specs.Prelude.{All, slice_index_or}
 use Rattle.hash_rows.specs.Amounts.{total_amount}
 use Rattle.hash_rows.specs.Lawful.{IsLawful}
@@ -8,10 +8,10 @@ use Rattle.hash_rows.specs.declared.options.Sketch.{Sketch}
 use Rattle.hash_rows.specs.declared.options.Sketch.TheVariants.{CountMin}
 use Rattle.hash_rows.specs.declared.shape.Packet.{Packet}
 use Rattle.hash_rows.specs.declared.shape.Push.{Push}
-use Rattle.hash_rows.specs.Rules.{Rules, rules_of}
+use Rattle.hash_rows.specs.Rules.{rules_of}
 use Rattle.push_history.specs.Front.{message_at, messages_of}
 use Rattle.push_history.specs.Journal.{rules_in, updates_by_options}
-use Rattle.push_history.specs.LawfulJournal.{all_of, sent_by, IsGrowingTable, IsLiveTable, OnlyOf}
+use Rattle.push_history.specs.LawfulJournal.{all_of, sent_by, IsGrowingTable, IsLiveTable}
 use Rattle.push_history.specs.LiveHeavy.{live_keys, missed_keys}
 use Rattle.push_history.specs.Pushes.{ArePushes, LawfulPushes}
 use Rattle.push_history.specs.Share.{share_of_worker}
@@ -38,9 +38,11 @@ module _ (packets : List Packet) (o : Options) (messages : List (List Push)) (re
   counted : o.sketch ≡ CountMin → (w : ℕ) → w < o.workers
       → (T : ℕ) × (F : List ℕ) × ArePushes count_min T (updates_of count_min o.shape packets (share_of_worker o.share o.workers packets w)) (sent_by messages w) F
   unfolding updates_by_options
-  counted is w lt =
-      (o.threshold, slice_index_or refused w [],
-      subst (λ (s : Sketch). ArePushes (rules_of s) o.threshold (updates_of (rules_of s) o.shape packets (share_of_worker o.share o.workers packets w)) (sent_by messages w) (slice_index_or refused w [])) is (each w lt).pushes)
+  counted is w lt = (
+    o.threshold,
+    slice_index_or refused w [],
+    subst (λ (s : Sketch). ArePushes (rules_of s) o.threshold (updates_of (rules_of s) o.shape packets (share_of_worker o.share o.workers packets w)) (sent_by messages w) (slice_index_or refused w [])) is (each w lt).pushes,
+  )
 
   grows : o.sketch ≡ CountMin → IsGrowingTable o messages (live_keys (rules_in o) o.shape o.heavy o.least H) (missed_keys (rules_in o) o.shape o.heavy o.least H)
   unfolding live_keys missed_keys
@@ -50,9 +52,9 @@ module _ (packets : List Packet) (o : Options) (messages : List (List Push)) (re
       let plain : All (λ m. IsPlain m.amount) H = all_plain o.share o.workers o.shape packets (omega (arith, lawful.some_workers)) lawful.shape total messages H same fold (counted is) in
       rw keyed (growing o messages H fold keyed
       (subst (λ (s : Sketch). (i : ℕ) → i < length H → (note_by (rules_of s) o.shape (messages_of (message_at H i).worker (take i H)) (message_at H i)).estimate ≤ℤ (note_by (rules_of s) o.shape (take i H) (message_at H i)).estimate) (sym is)
-        (own_below messages H fold plain small o.shape))
+      (own_below messages H fold plain small o.shape))
       (subst (λ (s : Sketch). (i : ℕ) → i < length H → (note_by (rules_of s) o.shape (take i H) (message_at H i)).estimate ≤ℤ (rules_of s).estimate o.shape (told_cells (rules_of s) o.shape (all_of messages)) (message_at H i).key) (sym is)
-        (all_above messages H fold plain small o.shape)))
+      (all_above messages H fold plain small o.shape)))
 
   pub fold_lawful : IsLawfulHeavy o messages (live_keys (rules_in o) o.shape o.heavy o.least H) (missed_keys (rules_in o) o.shape o.heavy o.least H)
   fold_lawful = record {

@@ -1,26 +1,21 @@
 -- For Count-Min: what lawful messages tell of a cell, as plain numbers.
-use Rattle.std.proofs.Common.{◌≡◌, ◌≢◌, ◌<◌, ◌≤◌, ◌≤ℤ◌, ◌+ℤ◌, ◌-ℤ◌, ℕ, ℤ, zero, suc, ◌+◌, ◌-◌, ◌*◌, ◌^◌, ◌==◌, pos, List, [], ◌∷◌, ◌++◌, length, get_or, take, Bool, true, false, nat_lt, if◌then◌else◌, refl, sym, ap, ap₂, ◌∙◌, subst, arith, inl, inr}
+use Rattle.std.proofs.Common.{◌≡◌, ◌<◌, ◌≤◌, ◌-ℤ◌, ℕ, ℤ, zero, suc, ◌+◌, ◌-◌, ◌^◌, ◌==◌, pos, List, [], ◌∷◌, length, get_or, take, Bool, true, false, nat_lt, if◌then◌else◌, refl, sym, ap, ap₂, ◌∙◌, subst, arith}
 use Rattle.std.specs.Prelude.{filter, map, fold, All, sum_by, unsigned_abs}
 use Rattle.std.specs.Int.{int_wrap, w64}
-use Rattle.std.specs.List.{flat_map, range_with_len}
 use Rattle.std.proofs.lemmas.Int.{int_wrap_fits, ints}
-use Rattle.std.proofs.lemmas.List.{take_more, take_all}
+use Rattle.std.proofs.lemmas.List.{take_more}
 use Rattle.std.proofs.lemmas.List.Elements.{All-head, All-tail, All-nil, All-push, All-take}
-use Rattle.std.proofs.lemmas.List.Sums.{sum_by-cons, sum_by-append, sum_by_push, sum_by-take-le}
+use Rattle.std.proofs.lemmas.List.Sums.{sum_by-cons, sum_by_push, sum_by-take-le}
 use Rattle.hash_rows.specs.declared.shape.Push.{Push}
 use Rattle.hash_rows.specs.declared.shape.Update.{Update}
 use Rattle.hash_rows.specs.Rules.{Rules, sums}
-use Rattle.hash_rows.specs.Sequential.{joined_of}
 use Rattle.hash_rows.specs.Sketches.{sum_join, sum_gap, count_min_value, count_min_estimate}
 use Rattle.hash_rows.proofs.SumLaws.{sum_gap_is, fits_sum}
 use Rattle.count_min.proofs.NeverBelow.{amount_sum, join_amounts}
 use Rattle.push_history.specs.Share.{zero_key}
 use Rattle.push_history.specs.Pushes.{ArePushes, TellsAll, is_sent}
 use Rattle.push_history.specs.Told.{told_of, told, messages_before}
-use Rattle.push_history.specs.Updates.{update_at}
 use Rattle.push_history.specs.Whole.{whole_of, whole}
-use Rattle.push_history.proofs.Growing.{numbers_within}
-use Rattle.push_history.proofs.Lists.{filter_kept}
 use Rattle.push_history.proofs.Telling.{before_quiet, before_sent}
 
 abbrev pub count_min : Rules

@@ -1,12 +1,11 @@
 -- What all workers tell of a cell never passes what all packets amount to.
-use Rattle.std.proofs.Common.{◌≡◌, ◌≢◌, ◌<◌, ◌≤◌, ℕ, ℤ, zero, suc, ◌+◌, ◌*◌, ◌^◌, ◌==◌, pos, List, [], ◌∷◌, ◌++◌, length, get_or, take, Bool, true, false, nat_lt, if◌then◌else◌, refl, sym, ap, ◌∙◌, subst, arith}
+use Rattle.std.proofs.Common.{◌≡◌, ◌≢◌, ◌<◌, ◌≤◌, ℕ, zero, suc, ◌+◌, ◌*◌, ◌^◌, ◌==◌, List, [], ◌∷◌, length, get_or, take, Bool, true, false, nat_lt, if◌then◌else◌, refl, sym, ap, ◌∙◌, subst, arith}
 use Rattle.std.specs.Prelude.{filter, map, All, sum_by, unsigned_abs}
 use Rattle.std.specs.List.{flat_map, range_with_len}
 use Rattle.std.proofs.lemmas.List.{take_more, take_all}
 use Rattle.std.proofs.lemmas.List.Elements.{All-head, All-tail, All-nil, All-cons, All-append}
 use Rattle.std.proofs.lemmas.List.Sums.{sum_by-cons, sum_by-append, sum_by_push, sum_by-take-le}
 use Rattle.hash_rows.specs.Amounts.{total_amount}
-use Rattle.hash_rows.specs.declared.options.Full.{Full}
 use Rattle.hash_rows.specs.declared.options.Share.{Share}
 use Rattle.hash_rows.specs.declared.shape.Packet.{Packet}
 use Rattle.hash_rows.specs.declared.shape.Push.{Push}
@@ -18,14 +17,14 @@ use Rattle.count_min.proofs.NeverBelow.{added, added_most, rows_at}
 use Rattle.push_history.specs.Share.{packet_at, worker_of, share_of_worker, zero_key}
 use Rattle.push_history.specs.Front.{messages_of}
 use Rattle.push_history.specs.LawfulJournal.{sent_by}
-use Rattle.push_history.specs.Pushes.{LawfulPushes, ArePushes}
+use Rattle.push_history.specs.Pushes.{ArePushes}
 use Rattle.push_history.specs.Told.{messages_before}
 use Rattle.push_history.specs.Updates.{update_in_row, updates_at, updates_of}
 use Rattle.push_history.proofs.Growing.{numbers_within}
 use Rattle.push_history.proofs.Lists.{filter_kept}
 use Rattle.push_history.proofs.Sharing.{range_more, worker_within}
 use Rattle.fold_law.specs.Folds.{IsFoldOf}
-use Rattle.fold_law.proofs.Sums.{count_min, IsPlain, sum_if, plain_told, plain_whole, IsTold, are_told}
+use Rattle.fold_law.proofs.Sums.{count_min, IsPlain, plain_told, plain_whole, IsTold, are_told}
 
 sum_none : (c k : ℕ) (h : ℕ → ℕ) (first n : ℕ) → c < first → sum_by (λ w. if c == w then k + h w else h w) (range_with_len first n) ≡ sum_by h (range_with_len first n)
 sum_none c k h first zero lt = refl
@@ -113,6 +112,7 @@ packet_rows shape cell i packet (row ∷ rows) = by (place_of shape packet.key r
   where
     f : Update → ℕ
     f u = if u.cell == cell then unsigned_abs u.value else 0
+
     by : (b : Bool) → (place_of shape packet.key row == cell) ≡ b
         → plain_whole cell (map (update_in_row count_min shape i packet) rows) ≡ packet.amount * length (filter (λ row. place_of shape packet.key row == cell) rows)
         → plain_whole cell (map (update_in_row count_min shape i packet) (row ∷ rows)) ≡ packet.amount * length (if place_of shape packet.key row == cell then row ∷ filter (λ row. place_of shape packet.key row == cell) rows else filter (λ row. place_of shape packet.key row == cell) rows)
@@ -162,7 +162,7 @@ unfolding share_of_worker total_amount
 shares_total sharing workers packets some =
     sum_parts (λ i. (packet_at packets i).amount) (worker_of sharing workers packets) workers (range_with_len 0 (length packets)) (λ k d lt. worker_within sharing workers packets _ some)
     ∙ sym (ap (sum_by (λ p. p.amount)) (sym (take_all (length packets) packets (omega arith)))
-      ∙ sum_places (λ p. p.amount) packets (record { key = zero_key; amount = 0 }) (length packets) (omega arith))
+    ∙ sum_places (λ p. p.amount) packets (record { key = zero_key; amount = 0 }) (length packets) (omega arith))
 
 share_below : (sharing : Share) (workers : ℕ) (packets : List Packet) (w : ℕ) → 0 < workers → w < workers
     → sum_by (λ i. (packet_at packets i).amount) (share_of_worker sharing workers packets w) ≤ total_amount packets
@@ -192,10 +192,11 @@ module _ (sharing : Share) (workers : ℕ) (shape : Shape) (packets : List Packe
       let U : List Update = updates_of count_min shape packets (share_of_worker sharing workers packets w) in
       let told : IsTold U S (length U) = are_told T U S F h (updates_plain shape packets (share_of_worker sharing workers packets w)) (λ cell. worker_small w cell lt) (length U) (omega arith) in
       let all : messages_before (length U) S ≡ S = filter_kept (λ m. nat_lt m.update (length U)) S (λ k d within. let below = numbers_within count_min U S S h.amounts k d within in grind arith) in
-      let whole : take (length U) U ≡ U = take_all (length U) U (omega arith) in
-      (subst (λ (t : List Push). All (λ m. IsPlain m.amount) t) all told.plain,
-      λ cell. (let most = share_most shape lawful packets cell (share_of_worker sharing workers packets w) in
-        let below = told.within cell in omega (arith, below, ap (plain_told cell) all, ap (plain_whole cell) whole, most)))
+      let whole : take (length U) U ≡ U = take_all (length U) U (omega arith) in (
+        subst (λ (t : List Push). All (λ m. IsPlain m.amount) t) all told.plain,
+        λ cell. (let most = share_most shape lawful packets cell (share_of_worker sharing workers packets w) in
+            let below = told.within cell in omega (arith, below, ap (plain_told cell) all, ap (plain_whole cell) whole, most)),
+      )
 
   -- what all workers tell
   pub all_told : (messages : List (List Push)) (H : List Push) → length messages ≡ workers → IsFoldOf messages H
@@ -205,9 +206,9 @@ module _ (sharing : Share) (workers : ℕ) (shape : Shape) (packets : List Packe
       let f : Push → ℕ = λ m. if m.cell == cell then unsigned_abs m.amount else 0 in
       let parts = sum_parts f (λ m. m.worker) workers H (λ k d lt. let w = fold.of_workers k d lt in omega (arith, w, same)) in
       let less = sum_range_le (λ w. sum_by f (messages_of w H)) (λ w. sum_by (λ i. (packet_at packets i).amount) (share_of_worker sharing workers packets w)) 0 workers
-        (λ w from to. let lt : w < workers = omega (arith, to) in let h = each w lt in
-          let own = (worker_told w h.0 (sent_by messages w) h.1 lt h.2).1 cell in
-          omega (arith, own, ap (sum_by f) (fold.in_order w (omega (arith, lt, same))))) in
+      (λ w from to. let lt : w < workers = omega (arith, to) in let h = each w lt in
+      let own = (worker_told w h.0 (sent_by messages w) h.1 lt h.2).1 cell in
+      omega (arith, own, ap (sum_by f) (fold.in_order w (omega (arith, lt, same))))) in
       let all = shares_total sharing workers packets some in
       omega (arith, parts, less, all, total)
 
@@ -227,6 +228,7 @@ module _ (sharing : Share) (workers : ℕ) (shape : Shape) (packets : List Packe
           own : (b : Bool) → b ≡ true → All P (if b then x ∷ filter (λ m. m.worker == x.worker) xs else filter (λ m. m.worker == x.worker) xs) → P x
           own true is all = All-head P x (filter (λ m. m.worker == x.worker) xs) all
           own false is all = absurd (cc)
+
           rest : (w : ℕ) (b : Bool) → All P (if b then x ∷ filter (λ m. m.worker == w) xs else filter (λ m. m.worker == w) xs) → All P (messages_of w xs)
           rest w true all = All-tail P x (filter (λ m. m.worker == w) xs) all
           rest w false all = all

@@ -44,8 +44,8 @@ notes_push r shape messages m =
     ap (λ (n : ℕ). map (note_at r shape (messages ++ m ∷ [])) (range_with_len 0 n)) (length_push messages m)
     ∙ map-range_with_len_more (note_at r shape (messages ++ m ∷ [])) 0 (length messages) (length messages) (omega arith)
     ∙ ap₂ (λ t x. t ++ x ∷ [])
-      (map_range_same (note_at r shape (messages ++ m ∷ [])) (note_at r shape messages) 0 (length messages) (λ k from to. note_before r shape messages m k (omega (arith, to))))
-      (note_last r shape messages m)
+    (map_range_same (note_at r shape (messages ++ m ∷ [])) (note_at r shape messages) 0 (length messages) (λ k from to. note_before r shape messages m k (omega (arith, to))))
+    (note_last r shape messages m)
 
 pub notes_none : (r : Rules) (shape : Shape) → notes_of r shape [] ≡ []
 unfolding notes_of
