@@ -61,7 +61,7 @@ pub whole_plain : (cell : ℕ) (updates : List Update) → All (λ u. IsPlain u.
 unfolding whole_of
 whole_plain cell updates plain small = plain_joined (λ u. u.cell == cell) (λ u. u.value) updates 0 plain (omega (arith, small)) ∙ ap pos (omega arith)
 
-gap_plain : (a b : ℕ) → a ≤ b → b < 2 ^ 63 → sum_gap (pos a) (pos b) ≡ pos (b - a)
+pub gap_plain : (a b : ℕ) → a ≤ b → b < 2 ^ 63 → sum_gap (pos a) (pos b) ≡ pos (b - a)
 gap_plain a b le small =
     let rest : pos b -ℤ pos a ≡ pos (b - a) = omega (arith, ints) in
     sum_gap_is (pos a) (pos b) (amount_sum a (omega arith)) (amount_sum b small)

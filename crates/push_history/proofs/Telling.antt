@@ -313,3 +313,13 @@ before_sent r T U S F h m sent =
     let before : messages_before m S ≡ take at.0 S = subst (λ (k : ℕ). messages_before k S ≡ take at.0 S) n (before_at S h.rising at.0 d at.1) in
     let after : messages_before (m + 1) S ≡ take (at.0 + 1) S = subst (λ (k : ℕ). messages_before (k + 1) S ≡ take (at.0 + 1) S) n (before_next S h.rising at.0 d at.1) in
     (x, after ∙ take_more S at.0 d at.1 ∙ ap (λ (t : List Push). t ++ x ∷ []) (sym before), h.amounts at.0 d at.1, n)
+
+-- the messages before the number of a front are its first ones
+pub messages_first : (S : List Push) → IsStrictlyIncreasing (map (λ m. m.update) S) → (j : ℕ) → j ≤ length S → messages_before (upto_of S j) S ≡ take j S
+unfolding upto_of
+messages_first S rising zero le = before_is_take S 0 0 (λ k d lt within. absurd (omega (arith, lt))) (λ k d lt within. omega arith)
+messages_first S rising (suc i) le =
+    let next : suc i ≡ i + 1 = omega arith in
+    subst (λ (j : ℕ). messages_before (upto_of S j) S ≡ take j S) (sym next)
+    (ap (λ (n : ℕ). messages_before n S) (upto_next S i)
+    ∙ before_next S rising i (record { worker = 0; packet = 0; update = 0; key = zero_key; cell = 0; amount = pos 0 }) (omega (arith, le)))
