@@ -1,20 +1,16 @@
 -- For Count-Min an answer is at most the true estimate, and short of it by no more than what the thresholds leave.
-use Rattle.std.proofs.Common.{◌≡◌, ◌<◌, ◌≤◌, ◌≤ℤ◌, ◌+ℤ◌, ℕ, ℤ, zero, suc, ◌+◌, ◌-◌, ◌*◌, ◌^◌, ◌==◌, pos, List, [], ◌∷◌, ◌++◌, length, get_or, take, Bool, true, false, nat_lt, if◌then◌else◌, refl, sym, ap, ap₂, ◌∙◌, subst, arith, inl, inr}
-use Rattle.std.specs.Prelude.{filter, map, fold, All, sum_by, unsigned_abs, slice_index_or}
+use Rattle.std.proofs.Common.{◌≡◌, ◌<◌, ◌≤◌, ◌+ℤ◌, ℕ, ℤ, zero, suc, ◌+◌, ◌-◌, ◌^◌, ◌==◌, pos, List, [], ◌∷◌, ◌++◌, length, get_or, take, true, false, if◌then◌else◌, refl, sym, ap, ap₂, ◌∙◌, subst, arith, inl, inr}
+use Rattle.std.specs.Prelude.{map, fold, All, sum_by, unsigned_abs, slice_index_or}
 use Rattle.std.specs.Int.{int_min}
 use Rattle.std.specs.List.{flat_map, range_with_len, zip}
 use Rattle.std.proofs.lemmas.Bool.{cases_lt}
 use Rattle.std.proofs.lemmas.Int.{ints, clamps}
-use Rattle.std.proofs.lemmas.List.{get_or_past, take_all}
-use Rattle.std.proofs.lemmas.List.Elements.{All-take, All-nil, All-append}
-use Rattle.std.proofs.lemmas.List.FromFn.{get_or-map-range_with_len, length-map-range_with_len}
+use Rattle.std.proofs.lemmas.List.{take_all}
+use Rattle.std.proofs.lemmas.List.Elements.{All-take}
 use Rattle.std.proofs.lemmas.List.Sums.{sum_by-cons, sum_by-append, sum_by-take-le}
-use Rattle.packet_key.specs.declared.key.FlowKey.{FlowKey}
 use Rattle.hash_rows.specs.declared.shape.Push.{Push}
-use Rattle.hash_rows.specs.declared.shape.Shape.{Shape}
 use Rattle.hash_rows.specs.declared.shape.Update.{Update}
-use Rattle.hash_rows.specs.Sketches.{sum_join, least_of}
-use Rattle.hash_rows.specs.Tables.{value_at}
+use Rattle.hash_rows.specs.Sketches.{sum_join}
 use Rattle.count_min.proofs.NeverBelow.{join_amounts}
 use Rattle.hash_rows.specs.Sketches.{sum_gap}
 use Rattle.hash_rows.proofs.SumLaws.{count_min_lawful}
@@ -24,7 +20,7 @@ use Rattle.push_history.specs.LawfulJournal.{sent_by}
 use Rattle.push_history.specs.Pushes.{ArePushes, is_refused}
 use Rattle.push_history.specs.Residue.{residue_size}
 use Rattle.push_history.specs.Shown.{first_messages}
-use Rattle.push_history.specs.Told.{told, told_of, messages_before}
+use Rattle.push_history.specs.Told.{told, messages_before}
 use Rattle.push_history.specs.Updates.{HoldValues, IsLastOf}
 use Rattle.push_history.specs.Whole.{whole}
 use Rattle.push_history.proofs.Sharing.{by_places}
@@ -32,7 +28,7 @@ use Rattle.push_history.proofs.Telling.{large_refused, messages_first, told_firs
 use Rattle.fold_law.proofs.Sums.{count_min, IsPlain, IsTold, are_told, gap_plain, plain_told, plain_whole, told_plain, whole_plain}
 
 -- the join of plain numbers
-joined_plain : (f : ℕ → ℕ) (ws : List ℕ) (s : ℕ) → s + sum_by f ws < 2 ^ 63 → fold sum_join (pos s) (map (λ w. pos (f w)) ws) ≡ pos (s + sum_by f ws)
+pub joined_plain : (f : ℕ → ℕ) (ws : List ℕ) (s : ℕ) → s + sum_by f ws < 2 ^ 63 → fold sum_join (pos s) (map (λ w. pos (f w)) ws) ≡ pos (s + sum_by f ws)
 joined_plain f [] s small = ap pos (omega arith)
 joined_plain f (w ∷ ws) s small =
     let more = sum_by-cons f w ws in
@@ -50,7 +46,7 @@ zip_length [] ys same = refl
 zip_length (x ∷ xs) [] same = absurd (omega (arith, same))
 zip_length (x ∷ xs) (y ∷ ys) same = (let rest = zip_length xs ys (omega (arith, same)) in omega (arith, rest))
 
-sum_flat : {X : Type 0} (f : X → ℕ) (g : ℕ → List X) (ws : List ℕ) → sum_by f (flat_map g ws) ≡ sum_by (λ w. sum_by f (g w)) ws
+pub sum_flat : {X : Type 0} (f : X → ℕ) (g : ℕ → List X) (ws : List ℕ) → sum_by f (flat_map g ws) ≡ sum_by (λ w. sum_by f (g w)) ws
 sum_flat f g [] = refl
 sum_flat f g (w ∷ ws) =
     let a = sum_by-append f (g w) (flat_map g ws) in
@@ -59,27 +55,26 @@ sum_flat f g (w ∷ ws) =
     omega (arith, a, b, rest)
 
 -- the messages of worker w up to the front
-front_messages : List (List Push) → List ℕ → ℕ → List Push
+abbrev pub front_messages : List (List Push) → List ℕ → ℕ → List Push
 front_messages messages front w = take (slice_index_or front w 0) (sent_by messages w)
 
 -- the first messages of all workers, worker by worker
-firsts_are : (messages : List (List Push)) (front : List ℕ) → length front ≡ length messages
+pub firsts_are : (messages : List (List Push)) (front : List ℕ) → length front ≡ length messages
     → first_messages messages front ≡ flat_map (front_messages messages front) (range_with_len 0 (length messages))
-unfolding front_messages
 firsts_are messages front same =
     let f : List Push × ℕ → List Push = λ p. take p.1 p.0 in
     let long = zip_length messages front same in
     ap (flat_map f) (sym (take_all (length messages) (zip messages front) (omega (arith, long))))
     ∙ by_places f (zip messages front) ([], 0) (length messages) (omega (arith, long))
     ∙ flat_same (λ i. f (get_or (zip messages front) i ([], 0))) (λ w. take (slice_index_or front w 0) (sent_by messages w)) 0 (length messages)
-      (λ w from to. ap f (zip_at messages front w [] 0 same (omega (arith, to))))
+    (λ w from to. ap f (zip_at messages front w [] 0 same (omega (arith, to))))
   where
     flat_same : (f g : ℕ → List Push) (first n : ℕ) → ((w : ℕ) → first ≤ w → w < first + n → f w ≡ g w) → flat_map f (range_with_len first n) ≡ flat_map g (range_with_len first n)
     flat_same f g first zero same = refl
     flat_same f g first (suc n) same = ap₂ (λ x t. x ++ t) (same first (omega arith) (omega arith)) (flat_same f g (first + 1) n (λ w from to. same w (omega (arith, from)) (omega (arith, to))))
 
 -- the least of numbers with k more
-least_more : (f : ℕ → ℤ) (k : ℕ) (x : ℤ) (ws : List ℕ) → fold int_min (x +ℤ pos k) (map (λ w. f w +ℤ pos k) ws) ≡ fold int_min x (map f ws) +ℤ pos k
+pub least_more : (f : ℕ → ℤ) (k : ℕ) (x : ℤ) (ws : List ℕ) → fold int_min (x +ℤ pos k) (map (λ w. f w +ℤ pos k) ws) ≡ fold int_min x (map f ws) +ℤ pos k
 least_more f k x [] = refl
 least_more f k x (w ∷ ws) =
     let here : int_min (x +ℤ pos k) (f w +ℤ pos k) ≡ int_min x (f w) +ℤ pos k = omega (arith, ints, clamps) in

@@ -78,7 +78,7 @@ sum_parts {X} f class classes (x ∷ xs) all =
     more w true = sum_by-cons f x (filter (λ y. class y == w) xs)
     more w false = refl
 
-sum_range_le : (f g : ℕ → ℕ) (first n : ℕ) → ((w : ℕ) → first ≤ w → w < first + n → f w ≤ g w) → sum_by f (range_with_len first n) ≤ sum_by g (range_with_len first n)
+pub sum_range_le : (f g : ℕ → ℕ) (first n : ℕ) → ((w : ℕ) → first ≤ w → w < first + n → f w ≤ g w) → sum_by f (range_with_len first n) ≤ sum_by g (range_with_len first n)
 sum_range_le f g first zero le = omega arith
 sum_range_le f g first (suc n) le =
     let here = le first (omega arith) (omega arith) in
@@ -87,7 +87,7 @@ sum_range_le f g first (suc n) le =
     let b = sum_by-cons g first (range_with_len (first + 1) n) in
     omega (arith, here, rest, a, b)
 
-sum_places : {X : Type 0} (f : X → ℕ) (xs : List X) (d : X) (n : ℕ) → n ≤ length xs → sum_by f (take n xs) ≡ sum_by (λ i. f (get_or xs i d)) (range_with_len 0 n)
+pub sum_places : {X : Type 0} (f : X → ℕ) (xs : List X) (d : X) (n : ℕ) → n ≤ length xs → sum_by f (take n xs) ≡ sum_by (λ i. f (get_or xs i d)) (range_with_len 0 n)
 sum_places f xs d zero le = refl
 sum_places {X} f xs d (suc n) le =
     let next : suc n ≡ n + 1 = omega arith in
