@@ -23,10 +23,10 @@ use Rattle.hash_rows.proofs.Places.{place_within, row_of_place}
 use Rattle.hash_rows.proofs.SumLaws.{sum_join_is, fits_sum}
 
 -- a sum of amounts that doesn't reach 2 ^ 63 is the sum
-amount_sum : (n : ℕ) → n < 2 ^ 63 → is_sum (pos n) ≡ true
+pub amount_sum : (n : ℕ) → n < 2 ^ 63 → is_sum (pos n) ≡ true
 amount_sum n small = grind arith
 
-join_amounts : (s n : ℕ) → s + n < 2 ^ 63 → sum_join (pos s) (pos n) ≡ pos (s + n)
+pub join_amounts : (s n : ℕ) → s + n < 2 ^ 63 → sum_join (pos s) (pos n) ≡ pos (s + n)
 join_amounts s n small =
     let whole : pos s +ℤ pos n ≡ pos (s + n) = omega (arith, ints) in
     sum_join_is (pos s) (pos n) (amount_sum s (omega arith)) (amount_sum n (omega arith))
@@ -41,11 +41,11 @@ rows_joined n (row ∷ rows) s small =
     ∙ ap pos (omega arith)
 
 -- the rows in which the packet's key has the cell
-rows_at : Shape → ℕ → Packet → List ℕ
+unfoldable pub rows_at : Shape → ℕ → Packet → List ℕ
 rows_at shape cell packet = filter (λ row. place_of shape packet.key row == cell) (rows_of shape)
 
 -- what the packet adds to the cell
-added : Shape → ℕ → Packet → ℕ
+unfoldable pub added : Shape → ℕ → Packet → ℕ
 added shape cell packet = packet.amount * length (rows_at shape cell packet)
 
 packets_joined : (shape : Shape) (cell : ℕ) (packets : List Packet) (s : ℕ) → s + sum_by (added shape cell) packets < 2 ^ 63
@@ -68,7 +68,7 @@ none_above test only says a (suc n) above = by_test (test a) refl (none_above te
   by_test true here rest = absurd (omega (arith, says a here))
   by_test false here rest = ap (λ b. cond b (a ∷ filter test (range_with_len (a + 1) n)) (filter test (range_with_len (a + 1) n))) here ∙ rest
 
-once_at_most : (test : ℕ → Bool) (only : ℕ) → ((row : ℕ) → test row ≡ true → row ≡ only) → (a n : ℕ) → length (filter test (range_with_len a n)) ≤ 1
+pub once_at_most : (test : ℕ → Bool) (only : ℕ) → ((row : ℕ) → test row ≡ true → row ≡ only) → (a n : ℕ) → length (filter test (range_with_len a n)) ≤ 1
 once_at_most test only says a zero = omega arith
 once_at_most test only says a (suc n) = by_test (test a) refl (once_at_most test only says (a + 1) n) where
   by_test : (b : Bool) → test a ≡ b → length (filter test (range_with_len (a + 1) n)) ≤ 1 → length (filter test (range_with_len a (suc n))) ≤ 1
@@ -108,7 +108,7 @@ least_of_rows b f (suc n) some each =
     least_at_least b f (f 0) (0 + 1) n (each 0 (omega arith)) (λ row from to. each row (omega arith))
 
 -- what a packet adds to a cell of the key
-added_most : (shape : Shape) → IsShape shape → (cell : ℕ) (p : Packet) → added shape cell p ≤ p.amount
+pub added_most : (shape : Shape) → IsShape shape → (cell : ℕ) (p : Packet) → added shape cell p ≤ p.amount
 unfolding added rows_at
 added_most shape lawful cell p =
     let test : ℕ → Bool = λ row. place_of shape p.key row == cell in

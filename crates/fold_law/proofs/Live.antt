@@ -1,10 +1,8 @@
 -- The live keys of a fold, and the messages of each worker.
-use Rattle.std.proofs.Common.{◌≡◌, ◌≢◌, ◌<◌, ◌≤◌, ℕ, ℤ, zero, suc, ◌+◌, ◌==◌, pos, List, [], ◌∷◌, ◌++◌, length, get_or, take, min, Bool, true, false, not, ◌&&◌, ◌||◌, if◌then◌else◌, refl, sym, ap, ap₂, ◌∙◌, subst, arith, length-append}
-use Rattle.std.specs.Prelude.{filter, map, fold, int_le, All, Contains}
-use Rattle.std.specs.List.{flat_map, range_with_len, IsDistinct, AllByRecursion, list_any}
+use Rattle.std.proofs.Common.{◌≡◌, ◌<◌, ◌≤◌, ℕ, ℤ, zero, suc, ◌+◌, pos, List, [], ◌∷◌, ◌++◌, length, get_or, take, Bool, true, false, not, ◌&&◌, ◌||◌, if◌then◌else◌, refl, sym, ap, ap₂, ◌∙◌, arith}
+use Rattle.std.specs.Prelude.{filter, map, fold, int_le}
+use Rattle.std.specs.List.{flat_map, range_with_len, IsDistinct, AllByRecursion}
 use Rattle.std.proofs.lemmas.List.{length-take, take_all, take_more}
-use Rattle.std.proofs.lemmas.List.Folds.{list_any-append}
-use Rattle.std.proofs.lemmas.List.Sums.{fold_push}
 use Rattle.packet_key.specs.declared.key.FlowKey.{FlowKey}
 use Rattle.hash_rows.specs.declared.shape.Flow.{Flow}
 use Rattle.hash_rows.specs.declared.shape.Push.{Push}
@@ -15,11 +13,11 @@ use Rattle.push_history.specs.Share.{zero_key}
 use Rattle.push_history.specs.Front.{message_at, messages_of}
 use Rattle.push_history.specs.LawfulJournal.{all_of, sent_by}
 use Rattle.push_history.specs.LiveHeavy.{is_among, with_key, distinct_keys, qualifying, live_of, missed_of, notes_of}
-use Rattle.push_history.proofs.Notes.{note_by, notes_push, notes_none, map_range_same}
+use Rattle.push_history.proofs.Notes.{note_by, notes_push, notes_none}
 use Rattle.push_history.proofs.Sharing.{by_places}
 use Rattle.heavy_keys.proofs.LiveLemmas.{none_missing_live}
 use Rattle.fold_law.specs.Folds.{IsFoldOf}
-use Rattle.fold_law.proofs.Steps.{count, count_append, count_one, one_if, steps, steps_le, count_by_worker}
+use Rattle.fold_law.proofs.Steps.{count, count_append, count_one, steps, count_by_worker}
 
 -- a new key differs from all before it
 distinct_last : (xs : List FlowKey) (k : FlowKey) → IsDistinct same_key xs → is_among xs k ≡ false → IsDistinct same_key (xs ++ k ∷ [])
@@ -32,6 +30,7 @@ distinct_last (x ∷ xs) k d new =
     or_false : (a b : Bool) → (a || b) ≡ false → (a ≡ false) × (b ≡ false)
     or_false true b is = absurd (cc)
     or_false false b is = (refl, is)
+
     each : (ys : List FlowKey) → AllByRecursion (λ y. same_key x y ≡ false) ys → same_key x k ≡ false → AllByRecursion (λ y. same_key x y ≡ false) (ys ++ k ∷ [])
     each [] all own = (own, tt)
     each (y ∷ ys) all own = (all.0, each ys all.1 own)
@@ -113,7 +112,7 @@ missed_count live least (x ∷ xs) = by (int_le least x.estimate) (missed_count 
     by false rest = rest
     by true rest =
         elim (not (is_among live x.key)) as (λ c. length (if c then x.key ∷ filter (λ key. not (is_among live key)) (qualifying least xs) else filter (λ key. not (is_among live key)) (qualifying least xs))
-          ≡ length (if c then x ∷ filter (λ note. int_le least note.estimate && not (is_among live note.key)) xs else filter (λ note. int_le least note.estimate && not (is_among live note.key)) xs))
+        ≡ length (if c then x ∷ filter (λ note. int_le least note.estimate && not (is_among live note.key)) xs else filter (λ note. int_le least note.estimate && not (is_among live note.key)) xs))
         [ true ↦ ap suc rest | false ↦ rest ]
 
 -- the messages of all workers, worker by worker

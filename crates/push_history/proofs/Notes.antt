@@ -20,7 +20,7 @@ map_range_same f g first (suc n) same =
     ap₂ (λ x t. x ∷ t) (same first (omega arith) (omega arith)) (map_range_same f g (first + 1) n (λ k from to. same k (omega (arith, from)) (omega (arith, to))))
 
 -- the note of a message
-pub note_by : Rules → Shape → List Push → Push → Flow
+abbrev pub note_by : Rules → Shape → List Push → Push → Flow
 note_by r shape before m = record { key = m.key; estimate = r.estimate shape (told_cells r shape (before ++ m ∷ [])) m.key }
 
 note_before : (r : Rules) (shape : Shape) (messages : List Push) (m : Push) (p : ℕ) → p < length messages → note_at r shape (messages ++ m ∷ []) p ≡ note_at r shape messages p
@@ -31,7 +31,7 @@ note_before r shape messages m p lt =
     (take-append-le (p + 1) messages (m ∷ []) (omega arith))
 
 note_last : (r : Rules) (shape : Shape) (messages : List Push) (m : Push) → note_at r shape (messages ++ m ∷ []) (length messages) ≡ note_by r shape messages m
-unfolding note_at note_by
+unfolding note_at
 note_last r shape messages m =
     ap₂ (λ (x : Push) (t : List Push). record { key = x.key; estimate = r.estimate shape (told_cells r shape t) x.key })
     (get_or_push messages m (record { worker = 0; packet = 0; update = 0; key = zero_key; cell = 0; amount = pos 0 }) (length messages) refl)
@@ -44,8 +44,8 @@ notes_push r shape messages m =
     ap (λ (n : ℕ). map (note_at r shape (messages ++ m ∷ [])) (range_with_len 0 n)) (length_push messages m)
     ∙ map-range_with_len_more (note_at r shape (messages ++ m ∷ [])) 0 (length messages) (length messages) (omega arith)
     ∙ ap₂ (λ t x. t ++ x ∷ [])
-      (map_range_same (note_at r shape (messages ++ m ∷ [])) (note_at r shape messages) 0 (length messages) (λ k from to. note_before r shape messages m k (omega (arith, to))))
-      (note_last r shape messages m)
+    (map_range_same (note_at r shape (messages ++ m ∷ [])) (note_at r shape messages) 0 (length messages) (λ k from to. note_before r shape messages m k (omega (arith, to))))
+    (note_last r shape messages m)
 
 pub notes_none : (r : Rules) (shape : Shape) → notes_of r shape [] ≡ []
 unfolding notes_of

@@ -296,3 +296,30 @@ amounts_are_values r laws T U S F values h = λ k d lt.
     ap r.is_value tells.amount
     ∙ laws.gap_value (told r S m.update m.cell) (whole r U (m.update + 1) m.cell) was.told_is
     (whole_value r laws m.cell (take (m.update + 1) U) (All-take (λ u. r.is_value u.value ≡ true) (m.update + 1) U values))
+
+-- the messages before one update more: none is added where none tells the update
+pub before_quiet : (S : List Push) (m : ℕ) → is_sent m S ≡ false → messages_before (m + 1) S ≡ messages_before m S
+before_quiet S m none = filter_same (λ x. nat_lt x.update (m + 1)) (λ x. nat_lt x.update m) S (λ k d lt. let other = each_fails (λ x. x.update == m) S none k d lt in grind arith)
+
+-- and one where one does
+pub before_sent : (r : Rules) (T : ℕ) (U : List Update) (S : List Push) (F : List ℕ) → ArePushes r T U S F → (m : ℕ) → is_sent m S ≡ true
+    → (x : Push) × (messages_before (m + 1) S ≡ messages_before m S ++ x ∷ []) × TellsAll r U S x × (x.update ≡ m)
+before_sent r T U S F h m sent =
+    let at = some_passes (λ x. x.update == m) S sent in
+    let d : Push = record { worker = 0; packet = 0; update = 0; key = zero_key; cell = 0; amount = pos 0 } in
+    let x : Push = get_or S at.0 d in
+    let is = at.2 d in
+    let n : x.update ≡ m = grind arith in
+    let before : messages_before m S ≡ take at.0 S = subst (λ (k : ℕ). messages_before k S ≡ take at.0 S) n (before_at S h.rising at.0 d at.1) in
+    let after : messages_before (m + 1) S ≡ take (at.0 + 1) S = subst (λ (k : ℕ). messages_before (k + 1) S ≡ take (at.0 + 1) S) n (before_next S h.rising at.0 d at.1) in
+    (x, after ∙ take_more S at.0 d at.1 ∙ ap (λ (t : List Push). t ++ x ∷ []) (sym before), h.amounts at.0 d at.1, n)
+
+-- the messages before the number of a front are its first ones
+pub messages_first : (S : List Push) → IsStrictlyIncreasing (map (λ m. m.update) S) → (j : ℕ) → j ≤ length S → messages_before (upto_of S j) S ≡ take j S
+unfolding upto_of
+messages_first S rising zero le = before_is_take S 0 0 (λ k d lt within. absurd (omega (arith, lt))) (λ k d lt within. omega arith)
+messages_first S rising (suc i) le =
+    let next : suc i ≡ i + 1 = omega arith in
+    subst (λ (j : ℕ). messages_before (upto_of S j) S ≡ take j S) (sym next)
+    (ap (λ (n : ℕ). messages_before n S) (upto_next S i)
+    ∙ before_next S rising i (record { worker = 0; packet = 0; update = 0; key = zero_key; cell = 0; amount = pos 0 }) (omega (arith, le)))
