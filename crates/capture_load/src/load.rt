@@ -31,6 +31,7 @@ pub fn load_capture<S: Source>(
     ensures fine { OnOk result ((bad : Bad) → Given (S.left source.old) (S.left source.new) (λ given rest. HoldsRefusal given rest bad → ⊥)) }
     ensures unrefused { IsErrOf result LoadStop.ReadFault → (frames : List Framed) (bad : Bad) → Given (S.left source.old) (S.left source.new)
         (λ given rest. RefusesNext 16777216 given frames bad → ⊥) }
+    ensures few { IfOk result (λ capture. length capture.packets.items ≤ 16777216) }
     ensures later { S.faults source.old ≤ S.faults source.new }
 {
     let mut loading = begin(alloc, amount)?;
@@ -81,7 +82,8 @@ fn parts(alloc: Global) -> Result<(Reader, Packets), NoMemory>
 // At the end of input.
 fn finish(loading: Loading) -> Result<Capture, LoadStop>
     requires { Counts loading }
-    ensures { (bytes : List ℕ) (frames : List Framed) → Loads loading bytes frames →
+    ensures few { IfOk result (λ capture. length capture.packets.items ≤ 16777216) }
+    ensures ends { (bytes : List ℕ) (frames : List Framed) → Loads loading bytes frames →
         MatchResult result (IsLoaded loading.amount bytes) (EndsIn bytes) }
 {
     match loading.reader.end() {

@@ -11,6 +11,7 @@ mod runs;
 mod workers;
 
 pub use journal::{Journal, write_journal};
+pub use line::Line;
 pub use report::{Report, write_report};
 
 #[cfg(test)]

@@ -11,7 +11,7 @@ use std::marker::Model;
 
 /// A line that is being written. It has at most 1,024 bytes.
 #[derive(Drop)]
-pub(crate) struct Line {
+pub struct Line {
     bytes: [u8; 1024],
     len: usize,
 }
@@ -27,7 +27,7 @@ impl Model for Line {
 }
 
 impl Line {
-    pub(crate) fn new() -> Line
+    pub fn new() -> Line
         ensures { result ≡ [] }
     {
         Line {
@@ -36,7 +36,7 @@ impl Line {
         }
     }
 
-    pub(crate) fn text(&mut self, bytes: &[u8])
+    pub fn text(&mut self, bytes: &[u8])
         requires { length self.old + length bytes.now ≤ 1024 }
         ensures text { self.new ≡ self.old ++ bytes.now }
         ensures room { length self.new ≤ length self.old + length bytes.now }
@@ -44,7 +44,7 @@ impl Line {
         self.len = put(&mut self.bytes, self.len, bytes);
     }
 
-    pub(crate) fn number(&mut self, number: u64)
+    pub fn number(&mut self, number: u64)
         requires { length self.old + 20 ≤ 1024 }
         ensures text { self.new ≡ self.old ++ decimal number }
         ensures room { length self.new ≤ length self.old + 20 }
@@ -53,7 +53,7 @@ impl Line {
     }
 
     /// Words, and the number behind them.
-    pub(crate) fn named(&mut self, words: &[u8], number: u64)
+    pub fn named(&mut self, words: &[u8], number: u64)
         requires { length self.old + length words.now + 20 ≤ 1024 }
         ensures text { self.new ≡ self.old ++ words.now ++ decimal number }
         ensures room { length self.new ≤ length self.old + length words.now + 20 }
@@ -62,7 +62,7 @@ impl Line {
         self.number(number);
     }
 
-    pub(crate) fn signed(&mut self, number: i64)
+    pub fn signed(&mut self, number: i64)
         requires { length self.old + 20 ≤ 1024 }
         ensures text { self.new ≡ self.old ++ signed_decimal number }
         ensures room { length self.new ≤ length self.old + 20 }
@@ -70,7 +70,7 @@ impl Line {
         self.text(Buffer::new().format(number).as_bytes());
     }
 
-    pub(crate) fn key(&mut self, key: &FlowKey)
+    pub fn key(&mut self, key: &FlowKey)
         requires { length self.old + 99 ≤ 1024 }
         ensures text { self.new ≡ self.old ++ text_of key.now }
         ensures room { length self.new ≤ length self.old + 99 }
@@ -81,7 +81,7 @@ impl Line {
     }
 
     /// Ends the line with a line feed, and writes it as one piece.
-    pub(crate) fn send<T: Sink>(&mut self, out: &mut T) -> Result<(), Failed>
+    pub fn send<T: Sink>(&mut self, out: &mut T) -> Result<(), Failed>
         requires { length self.old + 1 ≤ 1024 }
         ensures writes { Writes (T.holds out.old) (T.holds out.new) (self.old ++ codes "\n") result }
         ensures cause { HasCause (T.faults out.old) (T.faults out.new) result }

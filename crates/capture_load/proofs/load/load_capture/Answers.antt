@@ -44,5 +44,5 @@ returns-clause-fine g c =
     let inv = c.loop-loading.invariant.2 in
     let left = ended (g.S.Source.left c.loop-loading.source) (g.S.Source.left c.read.new.self) c.in-Ok-eq0.field-0 c.read.new.buf c.in-Ok-eq0.field-0-test c.in-Ok-eq0.ensures.given in
     let was = inv.2 ∙ ap (behind inv.0) left in
-    let done = subst (λ a. MatchResult c.finish.result (IsLoaded a inv.0) (EndsIn inv.0)) c.loop-loading.invariant.3 (c.finish.ensures inv.0 inv.1 inv.3) in
+    let done = subst (λ a. MatchResult c.finish.result (IsLoaded a inv.0) (EndsIn inv.0)) c.loop-loading.invariant.3 (c.finish.ensures.ends inv.0 inv.1 inv.3) in
     ends_fine (g.S.Source.left c.args.source.now) (g.S.Source.left c.read.new.self) inv.0 c.args.amount was c.finish.result done
