@@ -36,11 +36,11 @@ marked_clear (suc n) bits start end is within clear =
     ∙ marked_clear n bits (start + 1) end (omega arith) within (λ k low high. clear k (omega arith) high)
 
 -- they begin at this place or further on
-abbrev StartsFrom : ℕ → List ℕ → Type 0
+abbrev pub StartsFrom : ℕ → List ℕ → Type 0
 StartsFrom least [] = Unit {0}
 StartsFrom least (n ∷ ns) = least ≤ n
 
-marked_starts : (bits : List Bool) (least place : ℕ) → least ≤ place → StartsFrom least (marked_from place bits)
+pub marked_starts : (bits : List Bool) (least place : ℕ) → least ≤ place → StartsFrom least (marked_from place bits)
 marked_starts [] least place low = tt
 marked_starts (true ∷ bits) least place low = low
 marked_starts (false ∷ bits) least place low = marked_starts bits least (place + 1) (omega arith)

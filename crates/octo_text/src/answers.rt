@@ -51,7 +51,8 @@ fn write_answer<T: Sink>(out: &mut T, answer: &Answer) -> Result<(), Failed>
 /// Writes a line for each answer.
 pub(crate) fn write_answers<T: Sink>(out: &mut T, answers: &[Answer]) -> Result<(), Failed>
     requires { All FitsLine answers.now }
-    ensures writes { Writes (T.holds out.old) (T.holds out.new) (flat_map answer_line (map parts_of answers.now)) result }
+    ensures writes { Writes (T.holds out.old) (T.holds out.new)
+        (flat_map answer_line (map parts_of answers.now)) result }
     ensures cause { HasCause (T.faults out.old) (T.faults out.new) result }
 {
     for answer in answers {

@@ -4,6 +4,7 @@
 mod answers;
 mod choices;
 mod journal;
+mod laws;
 mod line;
 mod lines;
 mod report;
@@ -11,6 +12,7 @@ mod runs;
 mod workers;
 
 pub use journal::{Journal, write_journal};
+pub use laws::maximal_runs;
 pub use line::Line;
 pub use report::{Report, write_report};
 

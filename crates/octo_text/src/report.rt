@@ -88,7 +88,8 @@ fn write_estimate<T: Sink>(out: &mut T, name: &[u8], flow: &Flow) -> Result<(), 
 
 fn write_estimates<T: Sink>(out: &mut T, name: &[u8], flows: &[Flow]) -> Result<(), Failed>
     requires { length name.now ≤ 20 }
-    ensures writes { Writes (T.holds out.old) (T.holds out.new) (flat_map (estimate_line name.now) flows.now) result }
+    ensures writes { Writes (T.holds out.old) (T.holds out.new)
+        (flat_map (estimate_line name.now) flows.now) result }
     ensures cause { HasCause (T.faults out.old) (T.faults out.new) result }
 {
     for flow in flows {
@@ -98,7 +99,8 @@ fn write_estimates<T: Sink>(out: &mut T, name: &[u8], flows: &[Flow]) -> Result<
 }
 
 fn write_rows<T: Sink>(out: &mut T, used: &[u64]) -> Result<(), Failed>
-    ensures writes { Writes (T.holds out.old) (T.holds out.new) (flat_map row_line (enumerate_from 0 used.now)) result }
+    ensures writes { Writes (T.holds out.old) (T.holds out.new)
+        (flat_map row_line (enumerate_from 0 used.now)) result }
     ensures cause { HasCause (T.faults out.old) (T.faults out.new) result }
 {
     for (row, cells) in used.iter().enumerate() {
@@ -148,7 +150,8 @@ fn write_distinct<T: Sink>(out: &mut T, estimate: i64) -> Result<(), Failed>
 // What the sketch says of the keys.
 #[tactic(auto, unfolding(crate::specs::ReportText::estimate_lines))]
 fn write_findings<T: Sink>(out: &mut T, report: &Report) -> Result<(), Failed>
-    ensures writes { Writes (T.holds out.old) (T.holds out.new) (estimate_lines report.now.distinct report.now) result }
+    ensures writes { Writes (T.holds out.old) (T.holds out.new)
+        (estimate_lines report.now.distinct report.now) result }
     ensures cause { HasCause (T.faults out.old) (T.faults out.new) result }
 {
     match report.distinct {

@@ -41,7 +41,8 @@ fn write_run<T: Sink>(out: &mut T, worker: usize, first: u32, last: u32) -> Resu
 
 /// Writes a line for each maximal run of set bits.
 pub(crate) fn write_runs<T: Sink>(out: &mut T, worker: usize, bits: &Bits) -> Result<(), Failed>
-    ensures writes { Writes (T.holds out.old) (T.holds out.new) (flat_map (run_line worker) (runs_of (marked bits.now))) result }
+    ensures writes { Writes (T.holds out.old) (T.holds out.new)
+        (flat_map (run_line worker) (runs_of (marked bits.now))) result }
     ensures cause { HasCause (T.faults out.old) (T.faults out.new) result }
 {
     let len = bits.len();

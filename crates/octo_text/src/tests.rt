@@ -4,7 +4,7 @@ ghost use Rattle.hash_rows.specs.Lawful.{IsLawful};
 ghost use Rattle.push_history.specs.Journal.{keys_of};
 ghost use Rattle.octo_text.specs.Content.{IsComplete};
 
-use crate::{Journal, Report, write_journal, write_report};
+use crate::{Journal, Report, maximal_runs, write_journal, write_report};
 use flow_base::{Failed, MemSink, NoMemory};
 use hash_rows::{
     Amount, Answer, Answers, BitRows, Bits, Flow, Full, Mode, Options, Shape, Share, Sketch,
@@ -455,6 +455,7 @@ fn many_workers(alloc: Global) -> Result<Journal, NoMemory>
 #[test]
 fn a_journal_tells_what_a_run_kept(rt: HostRuntime) -> Result<(), Fail> {
     let alloc = rt.alloc();
+    maximal_runs();
     check_journal(&rt, alloc, &refusals(alloc)?, REFUSALS)?;
     check_journal(&rt, alloc, &two_rows(alloc)?, TWO_ROWS)?;
     check_journal(&rt, alloc, &many_workers(alloc)?, MANY_WORKERS)?;

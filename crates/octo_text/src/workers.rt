@@ -29,7 +29,8 @@ fn write_worker<T: Sink>(
     pushes: u64,
     refused: &Bits,
 ) -> Result<(), Failed>
-    ensures writes { Writes (T.holds out.old) (T.holds out.new) (worker_lines (worker, (pushes, marked refused.now))) result }
+    ensures writes { Writes (T.holds out.old) (T.holds out.new)
+        (worker_lines (worker, (pushes, marked refused.now))) result }
     ensures cause { HasCause (T.faults out.old) (T.faults out.new) result }
 {
     write_tally(out, worker, pushes, refused.count())?;
@@ -43,7 +44,8 @@ pub(crate) fn write_workers<T: Sink>(
     refused: &[Bits],
 ) -> Result<(), Failed>
     requires { length pushes.now ≡ length refused.now }
-    ensures writes { Writes (T.holds out.old) (T.holds out.new) (flat_map worker_lines (enumerate_from 0 (zip pushes.now (map marked refused.now)))) result }
+    ensures writes { Writes (T.holds out.old) (T.holds out.new)
+        (flat_map worker_lines (enumerate_from 0 (zip pushes.now (map marked refused.now)))) result }
     ensures cause { HasCause (T.faults out.old) (T.faults out.new) result }
 {
     for (worker, count) in pushes.iter().enumerate() {
