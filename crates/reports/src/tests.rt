@@ -4,7 +4,9 @@ use crate::*;
 use count_min::CountMin;
 use count_sketch::CountSketch;
 use flow_base::NoMemory;
-use hash_rows::{Amount, Flow, Full, Keys, Kind, Mode, Options, Packet, Shape, Share, Sketch, Tallies};
+use hash_rows::{
+    Amount, Flow, Full, Keys, Kind, Mode, Options, Packet, Shape, Share, Sketch, Tallies,
+};
 use listed::Listed;
 use loglog_regs::LogLog;
 use octo_text::Report;
