@@ -1,8 +1,8 @@
 -- One more packet, row by row.
-use Rattle.std.proofs.Common.{◌≡◌, ◌<◌, ◌≤◌, ℕ, zero, suc, ◌+◌, ◌*◌, ◌==◌, ℤ, pos, List, [], ◌∷◌, ◌++◌, length, get_or, set, replicate, Bool, true, false, if◌then◌else◌, refl, sym, ap, ◌∙◌, subst, arith}
-use Rattle.std.specs.Prelude.{filter, map, fold}
-use Rattle.std.specs.List.{flat_map, range_with_len}
-use Rattle.std.proofs.lemmas.List.{map-append, map-id, append-nil, append_assoc}
+use Rattle.std.proofs.Common.{◌≡◌, ◌<◌, ℕ, zero, suc, ◌+◌, ◌==◌, ℤ, pos, List, [], ◌∷◌, ◌++◌, set, replicate, Bool, true, false, if◌then◌else◌, refl, sym, ap, ◌∙◌, subst, arith}
+use Rattle.std.specs.Prelude.{filter, map}
+use Rattle.std.specs.List.{range_with_len}
+use Rattle.std.proofs.lemmas.List.{map-id, append-nil, append_assoc}
 use Rattle.std.proofs.lemmas.List.Sums.{fold_push}
 use Rattle.std.proofs.lemmas.List.FromFn.{map-range_with_len_more, get_or-map-range_with_len}
 use Rattle.std.proofs.lemmas.Grind.{flat_map-append}
@@ -11,8 +11,7 @@ use Rattle.hash_rows.specs.declared.shape.Shape.{Shape}
 use Rattle.hash_rows.specs.Rules.{Rules}
 use Rattle.hash_rows.specs.Sequential.{joined_of, packet_values, cell_values, sequential, sequential_table}
 use Rattle.hash_rows.specs.Shapes.{place_of, size_of}
-use Rattle.hash_rows.specs.Sketches.{rows_of}
-use Rattle.hash_rows.specs.Tables.{Figures, value_at, joined_at, put_in}
+use Rattle.hash_rows.specs.Tables.{Figures, value_at, put_in}
 use Rattle.push_history.proofs.Lists.{kept_push}
 
 -- what the first rows of a packet give a cell
@@ -106,6 +105,7 @@ reached_next r shape packets packet row lt =
         let same : place_of shape packet.key row ≡ i = grind arith in
         ap (λ (k : ℕ). r.join (reached r shape packets packet row k) (r.value shape packet row)) (sym same)
     next_by r shape packets packet row i false is = refl
+
     next_at : (r : Rules) (shape : Shape) (packets : List Packet) (packet : Packet) (row i : ℕ)
         → reached r shape packets packet (row + 1) i
         ≡ (if place_of shape packet.key row == i then r.join (reached r shape packets packet row (place_of shape packet.key row)) (r.value shape packet row) else reached r shape packets packet row i)

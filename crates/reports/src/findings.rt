@@ -2,8 +2,7 @@ ghost use Rattle.std.specs.Prelude.{◌≡◌, map, take, IfOk};
 ghost use Rattle.reports.specs.ReportOf.{flow_by, Distinct, Finds, HeavyFlows};
 
 use flow_base::NoMemory;
-use hash_rows::{Flows, Keys, Kind, Options, Packet, Sketch, Table};
-use hash_rows::Flow;
+use hash_rows::{Flow, Flows, Keys, Kind, Options, Packet, Sketch, Table};
 use heavy_keys::final_heavy;
 use listed::Listed;
 use packet_key::FlowKey;
@@ -30,11 +29,7 @@ pub struct Findings {
 }
 
 /// The keys and their estimates, in the order given.
-pub fn estimates<K: Kind>(
-    alloc: Global,
-    keys: &Keys,
-    table: &Table<K>,
-) -> Result<Flows, NoMemory>
+pub fn estimates<K: Kind>(alloc: Global, keys: &Keys, table: &Table<K>) -> Result<Flows, NoMemory>
     ensures { IfOk result (λ flows. flows.items ≡ map (flow_by (K.rules.estimate table.now.shape table.now.cells)) keys.now.items) }
 {
     let mut flows = Listed::new(alloc, keys.len())?;

@@ -1,9 +1,11 @@
-//! What a capture's packets make of one table, and the report of it.
+//! The table that takes all packets of a capture, and the report of it.
 #![tactic(auto)]
 
 mod build;
 mod findings;
 mod one_table;
+#[cfg(test)]
+mod tests;
 mod totals;
 
 pub use build::report_of;

@@ -1,6 +1,5 @@
 use Rattle.std.proofs.Common.{◌≡◌, List}
 use Rattle.hash_rows.specs.declared.shape.Packet.{Packet}
-use Rattle.hash_rows.specs.declared.shape.Shape.{Shape}
 use Rattle.hash_rows.specs.Sequential.{sequential_table}
 use Rattle.reports.proofs.Adding.{reached_table}
 use Rattle.reports.proofs.one_table.add_packet.Given as goal

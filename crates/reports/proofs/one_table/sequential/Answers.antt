@@ -1,4 +1,4 @@
-use Rattle.std.proofs.Common.{◌≡◌, ◌∙◌, sym, ap, take, List}
+use Rattle.std.proofs.Common.{◌∙◌, sym, ap, List}
 use Rattle.std.proofs.lemmas.List.{take_all, take_more}
 use Rattle.packet_key.specs.declared.key.FlowKey.TheVariants.{V4}
 use Rattle.hash_rows.specs.declared.shape.Packet.{Packet}
