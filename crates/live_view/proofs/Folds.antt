@@ -5,7 +5,7 @@ use Rattle.std.proofs.lemmas.List.Elements.{All-head, All-tail, All-append}
 use Rattle.std.proofs.lemmas.List.Sums.{fold-append}
 use mathlib.Core.List.{IsPrefix}
 use Rattle.hash_rows.specs.Rules.{Rules}
-use Rattle.live_view.specs.Fold.{Fold, fits, added, absorbed, layout_of, fresh_state, most, Fit, IsFoldOf}
+use Rattle.live_view.specs.Fold.{Fold, fits, added, absorbed, layout_of, fresh_state, most, state_after, Fit, IsFoldOf}
 use Rattle.hash_rows.specs.declared.shape.Push.{Push}
 use Rattle.live_view.specs.declared.layout.Layout.{Layout}
 use Rattle.live_view.proofs.Layouts.{fresh_layout, absorbed_layout, layout_all}
@@ -48,3 +48,15 @@ module _ (r : Rules) where
         fit = subst (λ (z : Layout). Fit r z (list ++ more)) same both;
         sums = e ∙ (ap (λ (u : Fold). fold (absorbed r) u more) h.sums ∙ (sym (fold-append (absorbed r) (fresh_state (layout_of s)) list more) ∙ ap (λ (z : Layout). fold (absorbed r) (fresh_state z) (list ++ more)) same));
       }
+
+  -- the state after messages that fit is their fold
+  pub after_is_fold : (l : Layout) (log : List Push) → Fit r l log → IsFoldOf r (state_after r l log) log
+  after_is_fold l log fit =
+      let same : layout_of (state_after r l log) ≡ l = layout_all r (fresh_state l) log ∙ fresh_layout l in
+      record { fit = subst (λ (z : Layout). Fit r z log) (sym same) fit; sums = ap (λ (z : Layout). state_after r z log) (sym same) }
+
+  -- a list that begins the log, and is as long as the state after the log says, is the log
+  pub known_whole : (l : Layout) (list log : List Push) → Fit r l log → IsPrefix list log → (state_after r l log).folded ≡ length list → length list < most → log ≡ list
+  known_whole l list log fit pre found short =
+      let count = count_is (state_after r l log) log (after_is_fold l log fit) in
+      sym (prefix_whole list log pre (omega (arith, count, found, short)))
