@@ -10,3 +10,4 @@ mod Adding
 mod Turns
 mod Desks
 mod Turning
+mod Settled
