@@ -69,9 +69,117 @@ fn an_ask_shows_what_was_published(rt: HostRuntime) -> Result<(), Fail> {
     writer.close(&rt);
     assert!(rt; appended);
     assert_eq!(rt; (before, answer.folded, folded), (0, 1, 1));
-    assert_eq!(rt; (*answer.front.get(0), *answer.front.get(1)), (1, 0));
-    assert_eq!(rt; (*answer.upto.get(0), *answer.upto.get(1)), (1, 0));
-    assert_eq!(rt; *answer.shown.get(0), 5);
-    assert_eq!(rt; state.table().cell(0), 5);
+    assert_eq!(rt; answer.front.as_slice(), &[1, 0]);
+    assert_eq!(rt; answer.upto.as_slice(), &[1, 0]);
+    assert_eq!(rt; answer.shown.as_slice(), &[5]);
+    assert_eq!(rt; state.table().estimate(&KEY), 5);
+    Ok(())
+}
+
+// Appends and publishes one message at a time.
+fn write_all<R: Wait>(rt: &R, writer: &mut ViewWriter<CountMin>, messages: u32) -> bool
+    requires { writer.old.layout ≡ layout_for (record { rows = 1; columns = 1 }) 2 4 (pos 1) }
+    ensures { (writer.new.book ≡ writer.old.book) × (writer.new.layout ≡ writer.old.layout) }
+{
+    for update in 0..messages {
+        if writer.append(message(update)).is_err() {
+            return false;
+        }
+        writer.publish(rt);
+    }
+    true
+}
+
+// Whether no answer has fewer messages than the one before.
+fn read_rising<K: Kind, R: Wait>(
+    rt: &R,
+    view: &mut View<K>,
+    keys: &[FlowKey],
+    into: &mut Answer,
+) -> bool
+    requires { HasRoomFor view.old.layout.workers keys.now into.old }
+    ensures pair { (view.new.book ≡ view.old.book) × (view.new.layout ≡ view.old.layout) }
+    ensures room { HasRoomFor view.old.layout.workers keys.now into.new }
+{
+    let mut rising = true;
+    for _ in 0..20 {
+        let before = into.folded;
+        view.ask(rt, keys, into);
+        rising = rising && before <= into.folded;
+        thread::yield_now();
+    }
+    rising
+}
+
+// Two readers beside each other.
+fn read_both<R: Threads + Wait + Sync>(
+    rt: &R,
+    first: &mut View<CountMin>,
+    second: &mut View<CountMin>,
+    keys: &[FlowKey],
+    one: &mut Answer,
+    two: &mut Answer,
+) -> bool
+    requires first { HasRoomFor first.old.layout.workers keys.now one.old }
+    requires second { HasRoomFor second.old.layout.workers keys.now two.old }
+    ensures first { (first.new.book ≡ first.old.book) × (first.new.layout ≡ first.old.layout) × HasRoomFor first.old.layout.workers keys.now one.new }
+    ensures second { (second.new.book ≡ second.old.book) × (second.new.layout ≡ second.old.layout) × HasRoomFor second.old.layout.workers keys.now two.new }
+{
+    let mut first_rises = false;
+    let mut second_rises = false;
+    join_mut(
+        rt,
+        &mut || first_rises = read_rising(rt, first, keys, one),
+        &mut || second_rises = read_rising(rt, second, keys, two),
+    );
+    first_rises && second_rises
+}
+
+#[test]
+fn readers_beside_a_writer_see_more_and_more(rt: HostRuntime) -> Result<(), Fail> {
+    let alloc: Global = rt.alloc();
+    let keys = [KEY];
+    let (Ok(mut one), Ok(mut two)) = (
+        Answer::new(alloc, 0, 0, 2, 1),
+        Answer::new(alloc, 1, 0, 2, 1),
+    ) else {
+        return Err(Fail::from("memory"));
+    };
+    let Ok((mut writer, mut views)) = make_views::<CountMin, _>(&rt, alloc, 2, ONE_CELL, 2, 4, 1)
+    else {
+        return Err(Fail::from("memory"));
+    };
+    let mut wrote = false;
+    let mut rising = false;
+    if let (Some(mut second), Some(mut first)) = (views.pop(), views.pop()) {
+        join_mut(
+            &rt,
+            &mut || wrote = write_all(&rt, &mut writer, 40),
+            &mut || rising = read_both(&rt, &mut first, &mut second, &keys, &mut one, &mut two),
+        );
+        settle(&rt, &mut writer, &mut first, &keys, &mut one);
+        settle(&rt, &mut writer, &mut second, &keys, &mut two);
+    }
+    writer.close(&rt);
+    assert!(rt; wrote && rising);
+    assert_eq!(rt; (one.folded, two.folded), (40, 40));
+    assert_eq!(rt; one.shown.as_slice(), &[200]);
+    Ok(())
+}
+
+// A message that was refused for want of memory goes in when it comes again.
+#[test]
+fn a_refused_message_comes_again(rt: HostRuntime) -> Result<(), Fail> {
+    let alloc: Global = rt.alloc();
+    let Ok((mut writer, _views)) = make_views::<CountMin, _>(&rt, alloc, 0, ONE_CELL, 2, 4, 1)
+    else {
+        return Err(Fail::from("memory"));
+    };
+    let taken = writer.append(message(0)).is_ok() || writer.append(message(0)).is_ok();
+    writer.publish(&rt);
+    let folded = writer.folded();
+    writer.close(&rt);
+    assert!(rt; taken);
+    assert_eq!(rt; folded, 1);
     Ok(())
 }
