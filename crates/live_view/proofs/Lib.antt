@@ -2,5 +2,12 @@ mod Lists
 mod Layouts
 mod Shown
 mod Kept
-mod Copied
 mod Live
+mod Copied
+mod Prefixes
+mod Folds
+mod Adding
+mod Turns
+mod Desks
+mod Turning
+mod Settled
