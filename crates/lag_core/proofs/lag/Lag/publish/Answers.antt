@@ -1,4 +1,3 @@
-use Rattle.lag_core.proofs.Heavies.{heavy_more, heavy_none, note_leaves}
-use Rattle.lag_core.proofs.Folding.{cells_more, front_more, upto_more, cells_none, front_none, upto_none}
-use Rattle.lag_core.proofs.Lists.{slot_set}
+use Rattle.lag_core.proofs.Cores.{publish_steps, ask_steps}
+use Rattle.lag_core.proofs.CoreSteps.{update_steps}
 use Rattle.lag_core.proofs.lag.Lag.publish.Goals as goal
