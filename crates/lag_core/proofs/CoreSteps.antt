@@ -1,5 +1,5 @@
 -- A worker's update, and a message that is folded.
-use Rattle.std.proofs.Common.{◌≡◌, ◌≢◌, ◌<◌, ◌≤◌, ◌+◌, ◌-◌, ◌==◌, ◌⊎◌, inl, inr, ℕ, ℤ, pos, Bool, true, false, Some, None, Option, List, [], ◌∷◌, ◌++◌, length, take, drop, filter, set, get_or, slice_get, map, refl, sym, ◌∙◌, ap, ap₂, subst, arith, length-append, length-set, zero, suc, nat_lt, if◌then◌else◌}
+use Rattle.std.proofs.Common.{◌≡◌, ◌≢◌, ◌<◌, ◌≤◌, ◌+◌, ◌-◌, ◌==◌, ◌⊎◌, inl, inr, ℕ, ℤ, pos, Bool, true, false, Some, None, Option, List, [], ◌∷◌, ◌++◌, length, take, drop, filter, set, get_or, slice_get, map, refl, sym, ◌∙◌, ap, ap₂, subst, arith, length-append, length-set, zero, suc, nat_lt, if◌then◌else◌, add-one}
 use Rattle.std.specs.Prelude.{All, min}
 use Rattle.std.proofs.lemmas.Bool.Decides.{nat_tests}
 use Rattle.std.proofs.lemmas.Bool.{cases_eq}
@@ -113,3 +113,171 @@ module _ {H : Type 0} (stands : H → ℤ → ℤ → Type 0) (r : Rules) (v : C
       there s h y k a b ne (inr ea) (inr eb) = subst (λ (z : Worker). IsWorkerAt stands (terms_of r v.limits) k a b z) (sym (other s y k ne)) (h.each k a b ea.1 eb.1)
       there s h y k a b ne (inl ea) eb = absurd (ne ea.0)
       there s h y k a b ne (inr ea) (inl eb) = absurd (ne eb.0)
+
+  -- the lane is empty
+  pub take_none : lane.messages ≡ [] → Steps stands r v v (Take w) Empty
+  unfolding lag_step take_step
+  take_none none = record {
+    limits = refl;
+    readers = refl;
+    step = λ s h.
+        let x = worker_in s w in
+        let its = h.each w p lane sketch_at lane_at in
+        let all : x.taken ≡ length x.sent = omega (arith, ap (λ (ms : List Push). length ms) (sym none ∙ its.queued), length-drop x.taken x.sent, its.taken) in
+        let test : (x.taken == length x.sent) ≡ true = grind (arith, nat_tests) in
+        rw test (h, refl);
+  }
+
+  -- a message is taken out of the lane
+  module _ (m : Push) (lane' : Queue) (queue : lane.messages ≡ m ∷ lane'.messages) (same_capacity : lane'.capacity ≡ lane.capacity) where
+    abbrev folded_core : Core H
+    folded_core = record v {
+      lanes = set v.lanes w lane';
+      fold = with_message r.join v.fold m;
+      heavy = with_note r v.shape (with_message r.join v.fold m).cells v.heavy m;
+    }
+
+    abbrev after_take : State → State
+    after_take s = record {
+      workers = set s.workers w (record { counted = (worker_in s w).counted; sent = (worker_in s w).sent; refused = (worker_in s w).refused; taken = (worker_in s w).taken + 1 });
+      folded = s.folded ++ m ∷ [];
+      shown = s.shown;
+      seen = s.seen;
+    }
+
+    module _ (s : State) (h : IsCoreAt stands r v s) where
+      its_worker : IsWorkerAt stands (terms_of r v.limits) w p lane (worker_in s w)
+      its_worker = h.each w p lane sketch_at lane_at
+
+      left : (worker_in s w).taken < length (worker_in s w).sent
+      left = omega (arith, ap (λ (ms : List Push). length ms) (sym queue ∙ its_worker.queued), length-drop (worker_in s w).taken (worker_in s w).sent)
+
+      parts : m ∷ lane'.messages ≡ message_at (worker_in s w).sent (worker_in s w).taken ∷ drop (suc (worker_in s w).taken) (worker_in s w).sent
+      parts = sym queue ∙ its_worker.queued ∙ drop-cons (worker_in s w).sent (worker_in s w).taken _ left
+
+      is_oldest : message_at (worker_in s w).sent (worker_in s w).taken ≡ m
+      is_oldest = let e = parts in cc
+
+      rest_is : lane'.messages ≡ drop ((worker_in s w).taken + 1) (worker_in s w).sent
+      rest_is = let e = parts in rw (add-one) cc
+
+      names_worker : m.worker ≡ w
+      names_worker = ap (λ (x : Push). x.worker) (sym is_oldest) ∙ (its_worker.named (worker_in s w).taken _ left).its_worker
+
+      in_shape : m.cell < size_of v.shape
+      in_shape =
+          let below : m.cell < length p.held = subst (λ (x : Push). x.cell < length p.held) is_oldest (its_worker.cells (worker_in s w).taken _ left) in
+          omega (arith, below, h.cells w p sketch_at)
+
+      is_amount : r.is_value m.amount ≡ true
+      is_amount = subst (λ (x : Push). r.is_value x.amount ≡ true) is_oldest (its_worker.amounts (worker_in s w).taken _ left)
+
+      from_worker : m.worker < workers_of v
+      from_worker = omega (arith, names_worker, within)
+
+      -- the messages before are as they were
+      front_stays : (n : ℕ) → n ≤ length s.folded → take n (s.folded ++ m ∷ []) ≡ take n s.folded
+      front_stays n le = take-append-le n s.folded (m ∷ []) le
+
+      taken_more : Worker
+      taken_more = record { counted = (worker_in s w).counted; sent = (worker_in s w).sent; refused = (worker_in s w).refused; taken = (worker_in s w).taken + 1 }
+
+      one_taken : IsWorkerAt stands (terms_of r v.limits) w p lane' (record { counted = (worker_in s w).counted; sent = (worker_in s w).sent; refused = (worker_in s w).refused; taken = (worker_in s w).taken + 1 })
+      one_taken = record {
+        within = its_worker.within;
+        sketch = its_worker.sketch;
+        can_count = its_worker.can_count;
+        threshold = its_worker.threshold;
+        capacity = same_capacity ∙ its_worker.capacity;
+        taken = omega (arith, left);
+        few = its_worker.few;
+        queued = rest_is;
+        named = its_worker.named;
+        amounts = its_worker.amounts;
+        cells = its_worker.cells;
+        numbers = its_worker.numbers;
+        full_lane = its_worker.full_lane;
+        waiting = its_worker.waiting;
+      }
+
+      sight_more : IsSightOf r v.shape (workers_of v) (with_message r.join v.fold m) (s.folded ++ m ∷ [])
+      sight_more = record {
+        cells = cells_more r v.shape s.folded m v.fold.cells h.fold.cells in_shape;
+        front = front_more (workers_of v) s.folded m v.fold.front h.fold.front from_worker;
+        upto = upto_more (workers_of v) s.folded m v.fold.upto h.fold.upto from_worker;
+      }
+
+      leaves : Leaves v.heavy (with_note r v.shape (with_message r.join v.fold m).cells v.heavy m)
+      leaves = note_leaves r v.shape (with_message r.join v.fold m).cells v.heavy m
+
+      own_more : (k : ℕ) → k < workers_of v → (b : Bool) → (m.worker == k) ≡ b
+          → messages_of k (s.folded ++ m ∷ []) ≡ take (get_or (after_take s).workers k fresh_worker).taken (get_or (after_take s).workers k fresh_worker).sent
+      own_more k below true is =
+          let same : w ≡ k = let g : m.worker ≡ k = grind (arith, nat_tests) in sym names_worker ∙ g in
+          let y : Worker = record { counted = (worker_in s w).counted; sent = (worker_in s w).sent; refused = (worker_in s w).refused; taken = (worker_in s w).taken + 1 } in
+          let grown : messages_of k s.folded ++ m ∷ [] ≡ take ((worker_in s w).taken + 1) (worker_in s w).sent =
+              ap (λ (ms : List Push). ms ++ m ∷ []) (subst (λ (j : ℕ). messages_of j s.folded ≡ take (worker_in s w).taken (worker_in s w).sent) same (h.own w within))
+              ∙ ap (λ (x : Push). take (worker_in s w).taken (worker_in s w).sent ++ x ∷ []) (sym is_oldest)
+              ∙ sym (take_more (worker_in s w).sent (worker_in s w).taken _ left) in
+          filter_push (λ (x : Push). x.worker == k) s.folded m true is ∙ grown
+          ∙ ap (λ (z : Worker). take z.taken z.sent) (sym (itself s y h.workers) ∙ ap (λ (j : ℕ). get_or (set s.workers w y) j fresh_worker) same)
+      own_more k below false is =
+          let apart : w ≢ k = λ e. let g : m.worker ≡ k = names_worker ∙ e in absurd (grind (arith, nat_tests)) in
+          let y : Worker = record { counted = (worker_in s w).counted; sent = (worker_in s w).sent; refused = (worker_in s w).refused; taken = (worker_in s w).taken + 1 } in
+          filter_push (λ (x : Push). x.worker == k) s.folded m false is ∙ h.own k below ∙ ap (λ (z : Worker). take z.taken z.sent) (sym (other s y k apart))
+
+      each_after : (k : ℕ) (a : Sketch H) (b : Queue) → slice_get v.sketches k ≡ Some a → ((w ≡ k) × (lane' ≡ b)) ⊎ ((w ≢ k) × (slice_get v.lanes k ≡ Some b))
+          → IsWorkerAt stands (terms_of r v.limits) k a b (get_or (after_take s).workers k fresh_worker)
+      each_after k a b at (inl e) =
+          let y : Worker = record { counted = (worker_in s w).counted; sent = (worker_in s w).sent; refused = (worker_in s w).refused; taken = (worker_in s w).taken + 1 } in
+          let same_sketch : p ≡ a = let there : slice_get v.sketches w ≡ Some a = subst (λ (j : ℕ). slice_get v.sketches j ≡ Some a) (sym e.0) at in cc in
+          subst (λ (j : ℕ). IsWorkerAt stands (terms_of r v.limits) j a b (get_or (set s.workers w y) j fresh_worker)) e.0
+          (subst (λ (z : Worker). IsWorkerAt stands (terms_of r v.limits) w a b z) (sym (itself s y h.workers))
+           (subst (λ (z : Queue). IsWorkerAt stands (terms_of r v.limits) w a z y) e.1 (subst (λ (z : Sketch H). IsWorkerAt stands (terms_of r v.limits) w z lane' y) same_sketch one_taken)))
+      each_after k a b at (inr e) =
+          let y : Worker = record { counted = (worker_in s w).counted; sent = (worker_in s w).sent; refused = (worker_in s w).refused; taken = (worker_in s w).taken + 1 } in
+          subst (λ (z : Worker). IsWorkerAt stands (terms_of r v.limits) k a b z) (sym (other s y k e.0)) (h.each k a b at e.1)
+
+      core_after : IsCoreAt stands r folded_core (after_take s)
+      core_after = record {
+        shape = h.shape;
+        workers = length-set s.workers w _ ∙ h.workers;
+        sketches = h.sketches;
+        lanes = length-set v.lanes w lane' ∙ h.lanes;
+        each = λ k a b at_a at_b. each_after k a b at_a (slot_set v.lanes w k lane' b at_b);
+        cells = h.cells;
+        fold = sight_more;
+        shown = subst (IsSightOf r v.shape (workers_of v) v.shown) (sym (front_stays s.shown h.shown_within)) h.shown;
+        shown_within = omega (arith, h.shown_within, length-append s.folded (m ∷ []));
+        own = λ k below. own_more k below (m.worker == k) refl;
+        sources = All-push (λ x. x.worker < workers_of v) s.folded m h.sources from_worker;
+        amounts = All-push (λ x. r.is_value x.amount ≡ true) s.folded m h.amounts is_amount;
+        heavy = heavy_more r v.shape (with_message r.join v.fold m).cells v.heavy s.folded m sight_more.cells h.heavy;
+        live = ap (take v.live) leaves.keys ∙ take-append-le v.live v.heavy.keys leaves.added h.live_within ∙ h.live
+            ∙ (λ i. live_keys r v.shape (sym leaves.limit i) (sym leaves.least i) (sym (front_stays s.shown h.shown_within) i));
+        live_within = omega (arith, h.live_within, ap (λ (ks : List _). length ks) leaves.keys, length-append v.heavy.keys leaves.added);
+        missed = h.missed
+            ∙ (λ i. min (missed_keys r v.shape (sym leaves.limit i) (sym leaves.least i) (sym (front_stays s.shown h.shown_within) i)) 18446744073709551615);
+        readers = h.readers;
+        seen = λ q front at. let old = h.seen q front at in
+            (old.0 ∙ ap (front_of (workers_of v)) (sym (front_stays (get_or s.seen q 0) (omega (arith, old.1, h.shown_within)))), old.1);
+      }
+
+    pub take_one : Steps stands r v folded_core (Take w) (Took m.amount)
+    unfolding lag_step take_step
+    take_one = record {
+      limits = refl;
+      readers = refl;
+      step = λ s h.
+          let x = worker_in s w in
+          let oldest = is_oldest s h in
+          let some = left s h in
+          let test : (x.taken == length x.sent) ≡ false = grind (arith, nat_tests) in
+          let after = core_after s h in
+          rw test (subst (λ (z : Push). IsCoreAt stands r folded_core (record {
+            workers = set s.workers w (record { counted = x.counted; sent = x.sent; refused = x.refused; taken = x.taken + 1 });
+            folded = s.folded ++ z ∷ [];
+            shown = s.shown;
+            seen = s.seen;
+          }) × (Took m.amount ≡ Took z.amount)) (sym oldest) (after, refl));
+    }
