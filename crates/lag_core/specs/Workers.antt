@@ -1,5 +1,5 @@
 -- A worker that runs, and the state of a run that it stands for.
-use Rattle.std.specs.Prelude.{◌≡◌, ◌<◌, ◌≤◌, ℕ, ℤ, List, [], All, Option, None, length, take, drop, true}
+use Rattle.std.specs.Prelude.{◌≡◌, ◌<◌, ◌≤◌, ℕ, ℤ, ◌^◌, List, [], All, Option, None, length, take, drop, true}
 use Rattle.hash_rows.specs.declared.options.Full.{Full}
 use Rattle.hash_rows.specs.declared.options.Full.TheVariants.{Wait}
 use Rattle.hash_rows.specs.declared.shape.Push.{Push}
@@ -31,6 +31,7 @@ distance_with r messages before update = r.distance (told_of r update.cell messa
 pub record CanCount {Held : Type 0} (r : Rules) (updates : List Update) (p : Sketch Held) : Type 0 where
   pub idle : p.due ≡ None
   pub room : p.room ≡ length updates
+  pub small : length updates < 2 ^ 32
   pub counted : p.counted ≤ length updates
   pub cells : All (λ u. u.cell < length p.held) updates
   pub values : HoldValues r updates

@@ -1,9 +1,14 @@
-ghost use Rattle.std.specs.Prelude.{◌≡◌, ◌<◌, ◌≤◌, ◌++◌, ◌∷◌, [], length, List, IfOk, All, true, slice_index_or};
+ghost use Rattle.std.specs.Prelude.{◌≡◌, ◌<◌, ◌≤◌, ◌^◌, ◌++◌, ◌∷◌, [], length, List, IfOk, All, true, slice_index_or};
+ghost use Rattle.hash_rows.specs.Rules.{AreValues};
+ghost use Rattle.hash_rows.specs.Shapes.{IsShape, size_of};
+ghost use Rattle.push_history.specs.declared.event.Event.{Event};
+ghost use Rattle.lag_core.specs.Lags.{with_note};
+ghost use Rattle.lag_core.specs.Sights.{with_message};
 
 use crate::lane::Lane;
-use crate::sight::Sight;
-use crate::worker::UpdateRows;
-use hash_rows::{Counts, Full, Kind, Shape};
+use crate::sight::{Sight, copy_items};
+use crate::worker::{UpdateRows, take_up};
+use hash_rows::{Counts, Full, Kind, Push, Shape};
 use heavy_keys::Heavy;
 use push_history::{Event, Reply};
 use push_rule::Private;
@@ -53,14 +58,103 @@ impl<K: Kind> Model for Lag<K> {
 }
 
 impl<K: Kind> Lag<K> {
-    ghost use Rattle.lag_core.specs.Lags.{StandsFor, Steps, workers_of};
+    ghost use Rattle.push_history.specs.declared.event.Event.TheVariants.{Update, Take, Publish, Ask};
+    ghost use Rattle.push_history.specs.LagRun.{reply_to};
+    ghost use Rattle.lag_core.specs.Workers.{terms_of};
+    ghost use Rattle.lag_core.specs.Lags.{StandsFor, Steps, IsWithin, workers_of};
 
-    /// Makes what is folded the shown state.
+    /// Runs an event.
+    pub fn step(&mut self, event: Event) -> Reply
+        requires { IsWithin (workers_of self.old) (length self.old.seen) event }
+        ensures limits { self.new.limits ≡ self.old.limits }
+        ensures readers { length self.new.seen ≡ length self.old.seen }
+        ensures stands { (events : List Event) → StandsFor K.stands K.rules self.old events →
+            StandsFor K.stands K.rules self.new (events ++ event ∷ []) ×
+            (result ≡ reply_to (terms_of K.rules self.old.limits) (length self.old.seen) events event) }
+    {
+        self.run(event)
+    }
+
+    fn run(&mut self, event: Event) -> Reply
+        requires { IsWithin (workers_of self.old) (length self.old.seen) event }
+        ensures { Steps K.stands K.rules self.old self.new event result }
+    {
+        match event {
+            Event::Update(worker) => self.update(worker),
+            Event::Take(worker) => self.take(worker),
+            Event::Publish => self.publish(),
+            Event::Ask(reader) => self.ask(reader),
+        }
+    }
+
+    // The worker takes up its next update.
+    fn update(&mut self, worker: u32) -> Reply
+        requires { worker < workers_of self.old }
+        ensures { Steps K.stands K.rules self.old self.new (Update worker) result }
+    {
+        let place = worker as usize;
+        let updates = self.updates.get(worker);
+        take_up(
+            worker,
+            updates,
+            &mut self.sketches[place],
+            &mut self.lanes[place],
+            self.full,
+        )
+    }
+
+    // The oldest message of the worker's lane is folded.
+    fn take(&mut self, worker: u32) -> Reply
+        requires { worker < workers_of self.old }
+        ensures { Steps K.stands K.rules self.old self.new (Take worker) result }
+    {
+        match self.lanes[worker as usize].pop() {
+            None => Reply::Empty,
+            Some(message) => {
+                fold_message::<K>(&self.shape, &mut self.fold, &mut self.heavy, &message);
+                Reply::Took {
+                    amount: message.amount,
+                }
+            }
+        }
+    }
+
+    // What is folded becomes what is shown.
     fn publish(&mut self) -> Reply
+        ensures { Steps K.stands K.rules self.old self.new Publish result }
     {
         self.shown.copy_from(&self.fold);
         self.live = self.heavy.len();
         self.missed = self.heavy.missed();
         Reply::Published
+    }
+
+    // The reader sees what is shown.
+    fn ask(&mut self, reader: u32) -> Reply
+        requires { reader < length self.old.seen }
+        ensures { Steps K.stands K.rules self.old self.new (Ask reader) result }
+    {
+        copy_items(&mut self.seen[reader as usize], self.shown.front());
+        Reply::Answered
+    }
+}
+
+// Joins a message into what is folded, and notes its key.
+fn fold_message<K: Kind>(shape: &Shape, fold: &mut Sight, heavy: &mut Heavy, message: &Push)
+    requires shape { IsShape shape.now }
+    requires cells { length fold.old.cells ≡ size_of shape.now }
+    requires values { AreValues K.rules fold.old.cells }
+    requires cell { message.now.cell < size_of shape.now }
+    requires amount { K.rules.is_value message.now.amount ≡ true }
+    requires front { message.now.worker < length fold.old.front }
+    requires upto { message.now.worker < length fold.old.upto }
+    requires few { slice_index_or fold.old.front message.now.worker 0 < 2 ^ 32 }
+    ensures fold { fold.new ≡ with_message K.rules.join fold.old message.now }
+    ensures heavy { heavy.new ≡ with_note K.rules shape.now (with_message K.rules.join fold.old message.now).cells heavy.old message.now }
+{
+    fold.add::<K>(message);
+    if K::KEYED {
+        let estimate = K::estimate(shape, fold.cells(), &message.key);
+        heavy.note(message.key, estimate);
     }
 }
