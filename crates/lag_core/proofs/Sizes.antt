@@ -72,3 +72,11 @@ module _ {H : Type 0} (stands : H → ℤ → ℤ → Type 0) (r : Rules) (v : C
       let x = worker_in s w in
       let count : get_or v.fold.front w 0 ≡ length (messages_of w s.folded) = ap (λ (l : List ℕ). get_or l w 0) h.fold.front ∙ front_at (workers_of v) s.folded w below in
       omega (arith, count, ap (λ (l : List Push). length l) (h.own w below), length-take x.taken x.sent, its.few, its.within, its.can_count.small)
+
+-- the item that was read at a place stands there
+pub read_at : {A : Type 0} (xs : List A) (i : ℕ) (x : A) → i < length xs → x ≡ get_or xs i x → slice_get xs i ≡ Some x
+read_at xs i x below is = slice_get-get_or xs i x below ∙ ap Some (sym is)
+
+pub map_length : {A B : Type 0} (f : A → B) (xs : List A) → length (map f xs) ≡ length xs
+map_length f [] = refl
+map_length f (x ∷ xs) = ap suc (map_length f xs)
