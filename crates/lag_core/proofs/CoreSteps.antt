@@ -130,7 +130,7 @@ module _ {H : Type 0} (stands : H → ℤ → ℤ → Type 0) (r : Rules) (v : C
 
   -- a message is taken out of the lane
   module _ (m : Push) (lane' : Queue) (queue : lane.messages ≡ m ∷ lane'.messages) (same_capacity : lane'.capacity ≡ lane.capacity) where
-    abbrev folded_core : Core H
+    abbrev pub folded_core : Core H
     folded_core = record v {
       lanes = set v.lanes w lane';
       fold = with_message r.join v.fold m;
@@ -161,18 +161,18 @@ module _ {H : Type 0} (stands : H → ℤ → ℤ → Type 0) (r : Rules) (v : C
       rest_is : lane'.messages ≡ drop ((worker_in s w).taken + 1) (worker_in s w).sent
       rest_is = let e = parts in rw (add-one) cc
 
-      names_worker : m.worker ≡ w
+      pub names_worker : m.worker ≡ w
       names_worker = ap (λ (x : Push). x.worker) (sym is_oldest) ∙ (its_worker.named (worker_in s w).taken _ left).its_worker
 
-      in_shape : m.cell < size_of v.shape
+      pub in_shape : m.cell < size_of v.shape
       in_shape =
           let below : m.cell < length p.held = subst (λ (x : Push). x.cell < length p.held) is_oldest (its_worker.cells (worker_in s w).taken _ left) in
           omega (arith, below, h.cells w p sketch_at)
 
-      is_amount : r.is_value m.amount ≡ true
+      pub is_amount : r.is_value m.amount ≡ true
       is_amount = subst (λ (x : Push). r.is_value x.amount ≡ true) is_oldest (its_worker.amounts (worker_in s w).taken _ left)
 
-      from_worker : m.worker < workers_of v
+      pub from_worker : m.worker < workers_of v
       from_worker = omega (arith, names_worker, within)
 
       -- the messages before are as they were

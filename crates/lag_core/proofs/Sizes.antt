@@ -80,3 +80,15 @@ read_at xs i x below is = slice_get-get_or xs i x below ∙ ap Some (sym is)
 pub map_length : {A B : Type 0} (f : A → B) (xs : List A) → length (map f xs) ≡ length xs
 map_length f [] = refl
 map_length f (x ∷ xs) = ap suc (map_length f xs)
+
+-- something stands at each place below the length
+pub some_at : {A : Type 0} (xs : List A) (i : ℕ) → i < length xs → (x : A) × (slice_get xs i ≡ Some x)
+some_at [] i below = absurd (omega arith)
+some_at (x ∷ xs) zero below = (x, refl)
+some_at (x ∷ xs) (suc i) below = some_at xs i (omega arith)
+
+-- an item put where it stood
+pub set_itself : {A : Type 0} (xs : List A) (i : ℕ) (x : A) → slice_get xs i ≡ Some x → set xs i x ≡ xs
+set_itself [] i x at = refl
+set_itself (y ∷ ys) zero x at = let e : y ≡ x = cc in ap (λ z. z ∷ ys) (sym e)
+set_itself (y ∷ ys) (suc i) x at = ap (λ l. y ∷ l) (set_itself ys i x at)
