@@ -1,7 +1,9 @@
 -- How long the lists of a core are.
 use Rattle.std.proofs.Common.{◌≡◌, ◌<◌, ◌≤◌, ◌+◌, ◌^◌, ℕ, ℤ, pos, true, List, length, take, map, get_or, set, slice_get, Some, refl, sym, ◌∙◌, ap, subst, arith, [], ◌∷◌, zero, suc}
 use Rattle.std.specs.Prelude.{All}
-use Rattle.std.specs.List.{range_with_len}
+use Rattle.std.specs.List.{range_with_len, AllZip}
+use Rattle.std.proofs.Common.{◌++◌}
+use Rattle.std.proofs.lemmas.List.{take_more}
 use Rattle.std.proofs.lemmas.List.FromFn.{length-map-range_with_len, get_or-map-range_with_len}
 use Rattle.std.proofs.lemmas.List.{length-take}
 use Rattle.std.proofs.lemmas.Option.{slice_get-get_or, get_or_from_slice_get}
@@ -92,3 +94,30 @@ pub set_itself : {A : Type 0} (xs : List A) (i : ℕ) (x : A) → slice_get xs i
 set_itself [] i x at = refl
 set_itself (y ∷ ys) zero x at = let e : y ≡ x = cc in ap (λ z. z ∷ ys) (sym e)
 set_itself (y ∷ ys) (suc i) x at = ap (λ l. y ∷ l) (set_itself ys i x at)
+
+zip_push : {A B : Type 0} (R : A → B → Type 0) (xs : List A) (ys : List B) (x : A) (y : B) → AllZip R xs ys → R x y → AllZip R (xs ++ x ∷ []) (ys ++ y ∷ [])
+zip_push R [] [] x y h now = (now, tt)
+zip_push R [] (b ∷ bs) x y h now = absurd h
+zip_push R (a ∷ rest) [] x y h now = absurd h
+zip_push R (a ∷ rest) (b ∷ bs) x y h now = (h.0, zip_push R rest bs x y h.1 now)
+
+-- what holds of the items at each place, with one place more
+pub zip_grown : {A B : Type 0} (R : A → B → Type 0) (xs : List A) (i : ℕ) (x : A) (ys ys' : List B) (y : B) → i < length xs → x ≡ get_or xs i x
+    → AllZip R (take i xs) ys → R x y → ys' ≡ ys ++ y ∷ [] → AllZip R (take (i + 1) xs) ys'
+zip_grown R xs i x ys ys' y below is h now pushed =
+    let grown : take (i + 1) xs ≡ take i xs ++ x ∷ [] = take_more xs i x below ∙ ap (λ z. take i xs ++ z ∷ []) (sym is) in
+    subst (λ l. AllZip R l ys') (sym grown) (subst (λ l. AllZip R (take i xs ++ x ∷ []) l) (sym pushed) (zip_push R (take i xs) ys x y h now))
+
+-- what holds of the items at one place
+pub zip_at : {A B : Type 0} (R : A → B → Type 0) (xs : List A) (ys : List B) (i : ℕ) (x : A) (y : B) → AllZip R xs ys → slice_get xs i ≡ Some x → slice_get ys i ≡ Some y → R x y
+zip_at R [] [] i x y h at_x at_y = cc
+zip_at R [] (b ∷ bs) i x y h at_x at_y = absurd h
+zip_at R (a ∷ rest) [] i x y h at_x at_y = absurd h
+zip_at R (a ∷ rest) (b ∷ bs) zero x y h at_x at_y = let e : a ≡ x = cc in let f : b ≡ y = cc in subst (λ z. R z y) e (subst (λ z. R a z) f h.0)
+zip_at R (a ∷ rest) (b ∷ bs) (suc i) x y h at_x at_y = zip_at R rest bs i x y h.1 at_x at_y
+
+pub zip_length : {A B : Type 0} (R : A → B → Type 0) (xs : List A) (ys : List B) → AllZip R xs ys → length ys ≡ length xs
+zip_length R [] [] h = refl
+zip_length R [] (b ∷ bs) h = absurd h
+zip_length R (a ∷ rest) [] h = absurd h
+zip_length R (a ∷ rest) (b ∷ bs) h = ap suc (zip_length R rest bs h.1)

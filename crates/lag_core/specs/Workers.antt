@@ -52,3 +52,12 @@ pub record IsWorkerAt {Held : Type 0} (stands : Held → ℤ → ℤ → Type 0)
   pub numbers : All (λ m. m.update < s.counted) s.sent
   pub full_lane : (k : ℕ) → is_refused k s.refused ≡ true → t.capacity ≤ length (messages_before k s.sent)
   pub waiting : t.full ≡ Wait → s.refused ≡ []
+
+-- the sketch has counted nothing, and has so many cells and room for all of these updates
+pub record IsFreshSketch {Held : Type 0} (stands : Held → ℤ → ℤ → Type 0) (r : Rules) (cells its_threshold : ℕ) (updates : List Update) (p : Sketch Held) : Type 0 where
+  pub sketch : StandsFor stands r p [] [] []
+  pub idle : p.due ≡ None
+  pub held : length p.held ≡ cells
+  pub threshold : p.threshold ≡ its_threshold
+  pub room : p.room ≡ length updates
+  pub small : length updates < 2 ^ 32
