@@ -121,3 +121,9 @@ zip_length R [] [] h = refl
 zip_length R [] (b ∷ bs) h = absurd h
 zip_length R (a ∷ rest) [] h = absurd h
 zip_length R (a ∷ rest) (b ∷ bs) h = ap suc (zip_length R rest bs h.1)
+
+-- an image that stands at a place is that of the item there
+pub map_back : {A B : Type 0} (f : A → B) (xs : List A) (i : ℕ) (y : B) → slice_get (map f xs) i ≡ Some y → (x : A) × (slice_get xs i ≡ Some x) × (f x ≡ y)
+map_back f [] i y at = absurd cc
+map_back f (x ∷ xs) zero y at = (x, refl, cc)
+map_back f (x ∷ xs) (suc i) y at = map_back f xs i y at
