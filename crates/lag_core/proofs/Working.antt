@@ -257,6 +257,7 @@ module _ {H : Type 0} (stands : H → ℤ → ℤ → Type 0) (t : Terms) (w : �
     can_more = record {
       idle = idle;
       room = room ∙ h.can_count.room;
+      small = h.can_count.small;
       counted = omega (arith, counted, counted_is, lt);
       cells = subst (λ (n : ℕ). All (λ x. x.cell < n) (updates_by t w)) (sym same_cells) h.can_count.cells;
       values = h.can_count.values;

@@ -6,6 +6,7 @@ use Rattle.hash_rows.specs.Rules.{Rules}
 use Rattle.hash_rows.specs.Shapes.{IsShape, size_of}
 use Rattle.heavy_keys.specs.Noted.{HeavyTable, noted}
 use Rattle.push_history.specs.declared.event.Event.{Event}
+use Rattle.push_history.specs.declared.event.Event.TheVariants.{Update, Take, Publish, Ask}
 use Rattle.push_history.specs.declared.event.Reply.{Reply}
 use Rattle.push_history.specs.Front.{front_of, messages_of}
 use Rattle.push_history.specs.LagRun.{Terms, State, lag_step, lag_run, worker_in}
@@ -64,6 +65,13 @@ pub record IsCoreAt {Held : Type 0} (stands : Held → ℤ → ℤ → Type 0) (
   pub readers : length s.seen ≡ length v.seen
   pub seen : (q : ℕ) (front : List ℕ) → slice_get v.seen q ≡ Some front
     → (front ≡ front_of (workers_of v) (take (slice_index_or s.seen q 0) s.folded)) × (slice_index_or s.seen q 0 ≤ s.shown)
+
+-- the event names a worker or a reader that there is
+abbrev pub IsWithin : ℕ → ℕ → Event → Type 0
+IsWithin workers readers (Update w) = w < workers
+IsWithin workers readers (Take w) = w < workers
+IsWithin workers readers Publish = Unit {0}
+IsWithin workers readers (Ask q) = q < readers
 
 -- the core has run these events
 abbrev pub StandsFor : {Held : Type 0} → (Held → ℤ → ℤ → Type 0) → Rules → Core Held → List Event → Type 0

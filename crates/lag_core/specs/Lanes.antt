@@ -1,7 +1,10 @@
 -- A bounded queue.
-use Rattle.std.specs.Prelude.{ℕ, List}
+use Rattle.std.specs.Prelude.{ℕ, List, []}
 use Rattle.hash_rows.specs.declared.shape.Push.{Push}
 
 pub record Queue : Type 0 where
   pub messages : List Push
   pub capacity : ℕ
+
+abbrev pub fresh_lane : ℕ → Queue
+fresh_lane capacity = record { messages = []; capacity = capacity }

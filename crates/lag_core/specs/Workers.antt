@@ -1,5 +1,5 @@
 -- A worker that runs, and the state of a run that it stands for.
-use Rattle.std.specs.Prelude.{◌≡◌, ◌<◌, ◌≤◌, ℕ, ℤ, List, [], All, Option, None, length, take, drop, true}
+use Rattle.std.specs.Prelude.{◌≡◌, ◌<◌, ◌≤◌, ℕ, ℤ, ◌^◌, List, [], All, Option, None, length, take, drop, true}
 use Rattle.hash_rows.specs.declared.options.Full.{Full}
 use Rattle.hash_rows.specs.declared.options.Full.TheVariants.{Wait}
 use Rattle.hash_rows.specs.declared.shape.Push.{Push}
@@ -31,6 +31,7 @@ distance_with r messages before update = r.distance (told_of r update.cell messa
 pub record CanCount {Held : Type 0} (r : Rules) (updates : List Update) (p : Sketch Held) : Type 0 where
   pub idle : p.due ≡ None
   pub room : p.room ≡ length updates
+  pub small : length updates < 2 ^ 32
   pub counted : p.counted ≤ length updates
   pub cells : All (λ u. u.cell < length p.held) updates
   pub values : HoldValues r updates
@@ -51,3 +52,12 @@ pub record IsWorkerAt {Held : Type 0} (stands : Held → ℤ → ℤ → Type 0)
   pub numbers : All (λ m. m.update < s.counted) s.sent
   pub full_lane : (k : ℕ) → is_refused k s.refused ≡ true → t.capacity ≤ length (messages_before k s.sent)
   pub waiting : t.full ≡ Wait → s.refused ≡ []
+
+-- the sketch has counted nothing, and has so many cells and room for all of these updates
+pub record IsFreshSketch {Held : Type 0} (stands : Held → ℤ → ℤ → Type 0) (r : Rules) (cells its_threshold : ℕ) (updates : List Update) (p : Sketch Held) : Type 0 where
+  pub sketch : StandsFor stands r p [] [] []
+  pub idle : p.due ≡ None
+  pub held : length p.held ≡ cells
+  pub threshold : p.threshold ≡ its_threshold
+  pub room : p.room ≡ length updates
+  pub small : length updates < 2 ^ 32
