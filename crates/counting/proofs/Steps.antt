@@ -294,7 +294,7 @@ keeps_cleared {H} stands t w d d' x keeps sketch worker lane full queue taken = 
   full = full ∙ keeps.full;
   cleared = keeps.cleared ++ take d.taken d.queue;
   queue = keeps.queue ∙ ap (λ (l : List Push). keeps.cleared ++ l) (sym (take-append-drop d.taken d.queue)) ∙ sym (append_assoc keeps.cleared (take d.taken d.queue) (drop d.taken d.queue))
-    ∙ ap (λ (l : List Push). keeps.cleared ++ take d.taken d.queue ++ l) (sym queue);
+      ∙ ap (λ (l : List Push). keeps.cleared ++ take d.taken d.queue ++ l) (sym queue);
   taken = omega (arith, keeps.taken, taken, length-append keeps.cleared (take d.taken d.queue), length-take d.taken d.queue, keeps.taken_within);
   taken_within = omega (arith, taken);
 }

@@ -35,9 +35,13 @@ pub returns-in-Ok-Load-clause-bad : goal.returns-in-Ok-Load-clause-bad
 returns-in-Ok-Load-clause-bad g c = λ either command gives.
     let same = sym c.in-Ok-Load.field-0-is ∙ c.in-Ok-Load.ensures.once command gives in
     let run = c.octo_rounds-in-Ok-Load in
-    let bad = run.ensures.bad either in
-    (bad.0, bad.1, subst (λ (k : Command). GivenFor k (g.S.Source.left c.args.source.now) (g.S.Source.left c.args.source.now) (λ given rest. HoldsRefusal given rest bad.0)) same
-        (load_given c.in-Ok-Load.records c.in-Ok-Load.start c.in-Ok-Load.options _ _ run.ensures.front.0 (g.S.Source.left c.args.source.now) _ c.new-generated.ensures run.ensures.front.1 bad.2), bad.3)
+    let bad = run.ensures.bad either in (
+      bad.0,
+      bad.1,
+      subst (λ (k : Command). GivenFor k (g.S.Source.left c.args.source.now) (g.S.Source.left c.args.source.now) (λ given rest. HoldsRefusal given rest bad.0)) same
+          (load_given c.in-Ok-Load.records c.in-Ok-Load.start c.in-Ok-Load.options _ _ run.ensures.front.0 (g.S.Source.left c.args.source.now) _ c.new-generated.ensures run.ensures.front.1 bad.2),
+      bad.3,
+    )
 
 pub returns-in-Ok-Load-clause-accepted : goal.returns-in-Ok-Load-clause-accepted
 returns-in-Ok-Load-clause-accepted g c = λ either command gives.

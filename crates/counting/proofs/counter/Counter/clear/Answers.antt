@@ -12,6 +12,6 @@ returns-clause-keeps g c = λ t w x keeps.
     let n = c.self.inside.taken in
     let whole : vec_len c.self.inside.queue ≡ length q = search rules in
     let left : c.truncate.new.self.items ≡ drop n q =
-        c.truncate.ensures.items ∙ ap (λ (l : List Push). take (c.len.result - n) l) c.rotate_left.ensures.items
-        ∙ ap (λ k. take (k - n) (drop n q ++ take n q)) (c.len.ensures ∙ whole) ∙ rotated q n inner.taken_within in
+    c.truncate.ensures.items ∙ ap (λ (l : List Push). take (c.len.result - n) l) c.rotate_left.ensures.items
+    ∙ ap (λ k. take (k - n) (drop n q ++ take n q)) (c.len.ensures ∙ whole) ∙ rotated q n inner.taken_within in
     keeps_cleared g.K.Kind.stands t w _ _ x inner refl refl refl refl left refl
