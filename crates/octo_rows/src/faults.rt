@@ -1,0 +1,146 @@
+// Runs that end without a report, or with a front of it.
+
+use crate::bytes::{F1, HL, R1};
+use crate::runs::{SMOOTH, Ways, run};
+use flow_base::Status;
+use std::alloc::Global;
+use std::test::Fail;
+
+const READ_FAULT: &[u8] = b"octo: read fault\n";
+
+const WRITE_FAULT: &[u8] = b"octo: write fault\n";
+
+const WORDS: &str = "run --workers 1 --threshold 1 --least 1 --watch 10.0.0.1:1234>10.0.0.2:443/6";
+
+fn ends(
+    alloc: Global,
+    line: &str,
+    parts: &[&[u8]],
+    status: Status,
+    fault: &str,
+) -> Result<bool, Fail> {
+    let end = run(alloc, line, parts, SMOOTH)?;
+    Ok(end.status == status && end.out.held().is_empty() && end.err.held() == fault.as_bytes())
+}
+
+#[test]
+fn each_refusal_has_its_line(rt: HostRuntime) -> Result<(), Fail> {
+    let alloc = rt.alloc();
+    let refused: [(&[&[u8]], &str); 8] = [
+        (&[&HL[..23]], "octo: bad capture 1 length 23\n"),
+        (&[], "octo: bad capture 1 length 0\n"),
+        (&[b"\x0a\x0d\x0d\x0a"], "octo: bad capture 3 pcapng\n"),
+        (&[b"\x1f\x8b\x08\0"], "octo: bad capture 2 magic 1f8b0800\n"),
+        (
+            &[b"\xd4\xc3\xb2\xa1\x02\0\x03\0"],
+            "octo: bad capture 4 version 2.3\n",
+        ),
+        (
+            &[&HL[..20], b"\x71\0\0\0"],
+            "octo: bad capture 5 link 113\n",
+        ),
+        (
+            &[HL, R1, F1, b"\0\0\0\0\0\0\0\0\x01\0\x04\0\x01\0\x04\0"],
+            "octo: bad capture 6 offset 94 length 262145\n",
+        ),
+        (
+            &[HL, b"\0\0\0\0\0\0\0\0\xff\xff\xff\xff\0\0\0\0"],
+            "octo: bad capture 6 offset 24 length 4294967295\n",
+        ),
+    ];
+    for (parts, fault) in refused {
+        assert!(rt; ends(alloc, "run", parts, Status::BadCapture, fault)?);
+    }
+    let usage = [
+        "",
+        "walk",
+        "run --rows 04",
+        "run --speed 1",
+        "run --journal",
+    ];
+    for line in usage {
+        assert!(rt; ends(alloc, line, &[HL], Status::Usage, "octo: usage\n")?);
+    }
+    Ok(())
+}
+
+#[test]
+fn a_failing_read_ends_the_run(rt: HostRuntime) -> Result<(), Fail> {
+    let alloc = rt.alloc();
+    for call in 0..15u32 {
+        let failing = [call];
+        let ways = Ways {
+            piece: 7,
+            failing_reads: &failing,
+            ..SMOOTH
+        };
+        let end = run(alloc, WORDS, &[HL, R1, F1], ways)?;
+        assert_eq!(rt; end.status, Status::ReadFault);
+        assert!(rt; end.out.held().is_empty());
+        assert!(rt; end.err.held() == READ_FAULT);
+    }
+    let later = Ways {
+        piece: 7,
+        failing_reads: &[15],
+        ..SMOOTH
+    };
+    assert_eq!(rt;
+        run(alloc, WORDS, &[HL, R1, F1], later)?.status,
+        Status::Done
+    );
+    let magic: &[u8] = b"\x1f\x8b\x08\0";
+    let ways = Ways {
+        piece: 1,
+        failing_reads: &[3],
+        ..SMOOTH
+    };
+    assert_eq!(rt;
+        run(alloc, "run", &[magic], ways)?.status,
+        Status::ReadFault
+    );
+    let ways = Ways {
+        piece: 1,
+        failing_reads: &[4],
+        ..SMOOTH
+    };
+    assert_eq!(rt;
+        run(alloc, "run", &[magic], ways)?.status,
+        Status::BadCapture
+    );
+    Ok(())
+}
+
+#[test]
+fn a_failing_write_leaves_whole_lines(rt: HostRuntime) -> Result<(), Fail> {
+    let alloc = rt.alloc();
+    let parts = [HL, R1, F1];
+    let whole = run(alloc, WORDS, &parts, SMOOTH)?;
+    for call in 0..15u32 {
+        let failing = [call];
+        let ways = Ways {
+            failing_writes: &failing,
+            ..SMOOTH
+        };
+        let cut = run(alloc, WORDS, &parts, ways)?;
+        assert_eq!(rt; cut.status, Status::WriteFault);
+        assert!(rt; whole.out.held().starts_with(cut.out.held()));
+        let lines = cut.out.held().iter().filter(|byte| **byte == b'\n').count();
+        assert_eq!(rt; lines, call as usize);
+        assert!(rt; cut.err.held() == WRITE_FAULT);
+    }
+    let later = Ways {
+        failing_writes: &[15],
+        ..SMOOTH
+    };
+    assert_eq!(rt; run(alloc, WORDS, &parts, later)?.status, Status::Done);
+    let untold = Ways {
+        failing_writes: &[1],
+        failing_lines: &[0],
+        ..SMOOTH
+    };
+    let cut = run(alloc, WORDS, &parts, untold)?;
+    assert_eq!(rt; cut.status, Status::WriteFault);
+    assert_eq!(rt; cut.out.held().len(), 20);
+    assert!(rt; cut.err.held().is_empty());
+    Ok(())
+}

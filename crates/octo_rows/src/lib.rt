@@ -1,0 +1,11 @@
+//! Worked runs of octo, from words and bytes to what stands on its output.
+#![tactic(auto)]
+
+#[cfg(test)]
+mod bytes;
+#[cfg(test)]
+mod faults;
+#[cfg(test)]
+mod reports;
+#[cfg(test)]
+mod runs;

@@ -1,0 +1,174 @@
+// Reports of worked captures.
+
+use crate::bytes::{B1, F1, F2, F3, F4, F5, F6, HB, HL, R1, R1_MOST, R1_NONE, R2, R6, R42};
+use crate::runs::{SMOOTH, Ways, run};
+use flow_base::Status;
+use std::alloc::Global;
+use std::test::Fail;
+
+/// A report's first two lines by default.
+const HEAD: &str = "octosketch report 1\nsketch count-min rows 4 columns 2048 amount packets\n";
+
+fn reports(alloc: Global, line: &str, parts: &[&[u8]], expected: &[&str]) -> Result<bool, Fail> {
+    let smooth = run(alloc, line, parts, SMOOTH)?;
+    let mut text = String::new(alloc);
+    for piece in expected {
+        text.push_str(piece)?;
+    }
+    Ok(
+        smooth.status == Status::Done
+            && smooth.out.held() == text.as_bytes()
+            && smooth.err.held().is_empty(),
+    )
+}
+
+const NONE_SKIPPED: &str = "skipped short 0 notip 0 badip 0 tags 0\n";
+
+const FOUR_UNUSED: &str = "row 0 used 0\nrow 1 used 0\nrow 2 used 0\nrow 3 used 0\n";
+
+const FOUR_USED: &str = "row 0 used 1\nrow 1 used 1\nrow 2 used 1\nrow 3 used 1\n";
+
+#[test]
+fn a_capture_is_reported(rt: HostRuntime) -> Result<(), Fail> {
+    let alloc = rt.alloc();
+    let empty = [
+        HEAD,
+        "records 0\nkeyed 0\n",
+        NONE_SKIPPED,
+        "cut 0\ntotal 0\n",
+        FOUR_UNUSED,
+        "heavy 0\nend\n",
+    ];
+    assert!(rt; reports(alloc, "run", &[HL], &empty)?);
+    let one = [
+        HEAD,
+        "records 1\nkeyed 1\n",
+        NONE_SKIPPED,
+        "cut 0\ntotal 1\n",
+        FOUR_USED,
+        "watch 10.0.0.1:1234>10.0.0.2:443/6 1\nheavy 1\n",
+        "flow 10.0.0.1:1234>10.0.0.2:443/6 1\nend\n",
+    ];
+    let words = "run --workers 1 --threshold 1 --least 1 --watch 10.0.0.1:1234>10.0.0.2:443/6";
+    assert!(rt; reports(alloc, words, &[HL, R1, F1], &one)?);
+    let cut = [
+        HEAD,
+        "records 1\nkeyed 1\n",
+        NONE_SKIPPED,
+        "cut 9\ntotal 1\n",
+        FOUR_USED,
+        "heavy 0\nend\n",
+    ];
+    assert!(rt; reports(alloc, "run", &[HL, R1, F1, &[0; 9]], &cut)?);
+    Ok(())
+}
+
+#[test]
+fn both_orders_and_all_cuttings_give_one_report(rt: HostRuntime) -> Result<(), Fail> {
+    let alloc = rt.alloc();
+    let three = [
+        HEAD,
+        "records 3\nkeyed 3\n",
+        NONE_SKIPPED,
+        "cut 0\ntotal 3\n",
+        FOUR_USED,
+        "heavy 0\nend\n",
+    ];
+    let little = [HL, R1, F1, R1, F1, R1, F1];
+    assert!(rt; reports(alloc, "run", &little, &three)?);
+    assert!(rt; reports(alloc, "run", &[HB, B1, F1, B1, F1, B1, F1], &three)?);
+    assert!(rt;
+        reports(
+            alloc,
+            "run --threshold 3 --lane 1 --batch 1 --round 7",
+            &little,
+            &three
+        )?
+    );
+    let whole = run(alloc, "run", &little, SMOOTH)?;
+    let bytewise = run(alloc, "run", &little, Ways { piece: 1, ..SMOOTH })?;
+    assert_eq!(rt; bytewise.status, Status::Done);
+    assert!(rt; bytewise.out.held() == whole.out.held());
+    Ok(())
+}
+
+#[test]
+fn flows_of_equal_estimates_stand_by_key(rt: HostRuntime) -> Result<(), Fail> {
+    let alloc = rt.alloc();
+    let frames = [HL, R1, F1, R42, F3, R2, F2, R42, F4, R42, F5];
+    let words =
+        "run --rows 2 --columns 1 --amount bytes --least 1 --watch 10.0.0.1:1234>10.0.0.2:443/6";
+    let expected = [
+        "octosketch report 1\nsketch count-min rows 2 columns 1 amount bytes\n",
+        "records 5\nkeyed 4\nskipped short 0 notip 1 badip 0 tags 0\ncut 0\ntotal 188\n",
+        "row 0 used 1\nrow 1 used 1\nwatch 10.0.0.1:1234>10.0.0.2:443/6 188\nheavy 4\n",
+        "flow 10.0.0.1:0>10.0.0.2:0/1 188\nflow 10.0.0.1:0>10.0.0.2:0/17 188\n",
+        "flow 10.0.0.1:53>10.0.0.2:1234/17 188\nflow 10.0.0.1:1234>10.0.0.2:443/6 188\nend\n",
+    ];
+    assert!(rt; reports(alloc, words, &frames, &expected)?);
+    let families = [
+        "octosketch report 1\nsketch count-min rows 1 columns 1 amount packets\n",
+        "records 2\nkeyed 2\nskipped short 0 notip 0 badip 0 tags 0\ncut 0\ntotal 2\n",
+        "row 0 used 1\nheavy 2\nflow 10.0.0.1:1234>10.0.0.2:443/6 2\n",
+        "flow [2001:db8:0:0:0:0:0:1]:53>[2001:db8:0:0:0:0:0:2]:1234/17 2\nend\n",
+    ];
+    let words = "run --rows 1 --columns 1 --least 1";
+    assert!(rt; reports(alloc, words, &[HL, R6, F6, R1, F1], &families)?);
+    Ok(())
+}
+
+#[test]
+fn bytes_count_the_original_length(rt: HostRuntime) -> Result<(), Fail> {
+    let alloc = rt.alloc();
+    let words = "run --amount bytes --watch 10.0.0.1:1234>10.0.0.2:443/6";
+    let head = "octosketch report 1\nsketch count-min rows 4 columns 2048 amount bytes\n";
+    let none = [
+        head,
+        "records 1\nkeyed 1\n",
+        NONE_SKIPPED,
+        "cut 0\ntotal 0\n",
+        FOUR_UNUSED,
+        "watch 10.0.0.1:1234>10.0.0.2:443/6 0\nheavy 0\nend\n",
+    ];
+    assert!(rt; reports(alloc, words, &[HL, R1_NONE, F1], &none)?);
+    let most = [
+        head,
+        "records 1\nkeyed 1\n",
+        NONE_SKIPPED,
+        "cut 0\ntotal 4294967295\n",
+        FOUR_USED,
+        "watch 10.0.0.1:1234>10.0.0.2:443/6 4294967295\nheavy 1\n",
+        "flow 10.0.0.1:1234>10.0.0.2:443/6 4294967295\nend\n",
+    ];
+    assert!(rt; reports(alloc, words, &[HL, R1_MOST, F1], &most)?);
+    Ok(())
+}
+
+#[test]
+fn a_generated_capture_is_reported(rt: HostRuntime) -> Result<(), Fail> {
+    let alloc = rt.alloc();
+    let words = "load --records 2 --start 0 --amount bytes --rows 1 --columns 1 --least 1387";
+    let both = [
+        "octosketch report 1\nsketch count-min rows 1 columns 1 amount bytes\n",
+        "records 2\nkeyed 2\nskipped short 0 notip 0 badip 0 tags 0\ncut 0\ntotal 1387\n",
+        "row 0 used 1\nheavy 2\nflow 10.0.0.100:1124>10.0.1.1:443/6 1387\n",
+        "flow 10.0.0.141:1165>10.0.1.1:443/17 1387\nend\n",
+    ];
+    assert!(rt; reports(alloc, words, &[], &both)?);
+    let words = "load --records 1 --start 0 --sketch loglog --columns 128";
+    let registers = [
+        "octosketch report 1\nsketch loglog rows 1 columns 128 amount packets\n",
+        "records 1\nkeyed 1\nskipped short 0 notip 0 badip 0 tags 0\ncut 0\ntotal 1\n",
+        "row 0 used 1\ndistinct 1\nend\n",
+    ];
+    assert!(rt; reports(alloc, words, &[], &registers)?);
+    let words =
+        "run --sketch count-sketch --rows 1 --columns 1 --watch 10.0.0.1:1234>10.0.0.2:443/6";
+    let signed = [
+        "octosketch report 1\nsketch count-sketch rows 1 columns 1 amount packets\n",
+        "records 2\nkeyed 2\nskipped short 0 notip 0 badip 0 tags 0\ncut 0\ntotal 2\n",
+        "row 0 used 1\nwatch 10.0.0.1:1234>10.0.0.2:443/6 2\nheavy 0\nend\n",
+    ];
+    assert!(rt; reports(alloc, words, &[HL, R1, F1, R1, F1], &signed)?);
+    Ok(())
+}

@@ -1,0 +1,65 @@
+use flow_base::{MemSink, MemSource, NoMemory, Status};
+use octo_run::octo;
+use std::alloc::{AllocError, Global};
+use std::test::Fail;
+
+/// How a run ended, and what it left.
+#[derive(Drop)]
+pub struct Ended {
+    pub status: Status,
+    pub out: MemSink,
+    pub err: MemSink,
+}
+
+/// How its source and its outputs behave: the pieces in which bytes come, and the numbers of the
+/// calls that fail.
+#[derive(Clone, Copy)]
+pub struct Ways<'a> {
+    pub piece: u32,
+    pub failing_reads: &'a [u32],
+    pub failing_writes: &'a [u32],
+    pub failing_lines: &'a [u32],
+}
+
+/// Nothing fails, and bytes come at once.
+pub const SMOOTH: Ways = Ways {
+    piece: 1000000,
+    failing_reads: &[],
+    failing_writes: &[],
+    failing_lines: &[],
+};
+
+/// Runs octo on the words, which spaces part, and the parts of a capture.
+pub fn run(alloc: Global, line: &str, parts: &[&[u8]], ways: Ways) -> Result<Ended, Fail> {
+    let bytes = joined(alloc, parts)?;
+    let words = words_of(alloc, line)?;
+    let piece = ways.piece.max(1);
+    let mut source = MemSource::new(alloc, bytes.as_slice(), piece, ways.failing_reads)?;
+    let mut out = MemSink::new(alloc, 65536, ways.failing_writes)?;
+    let mut err = MemSink::new(alloc, 65536, ways.failing_lines)?;
+    let status = octo(alloc, words.as_slice(), &mut source, &mut out, &mut err);
+    Ok(Ended { status, out, err })
+}
+
+fn words_of(alloc: Global, line: &str) -> Result<Vec<String>, AllocError> {
+    let mut words = Vec::new(alloc);
+    for word in line.split(' ') {
+        if !word.is_empty() {
+            words.push(String::from_str(alloc, word)?)?;
+        }
+    }
+    Ok(words)
+}
+
+fn joined(alloc: Global, parts: &[&[u8]]) -> Result<Vec<u8>, AllocError> {
+    let mut all = Vec::new(alloc);
+    for part in parts {
+        all.extend_from_slice(part)?;
+    }
+    Ok(all)
+}
+
+/// The error of a test that met no memory.
+pub fn no_memory(_error: NoMemory) -> Fail {
+    Fail::from("no memory")
+}
