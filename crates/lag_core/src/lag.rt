@@ -25,20 +25,20 @@ use std::marker::Model;
 /// and two tables, and no list of messages.
 #[derive(Drop)]
 pub struct Lag<K: Kind> {
-    shape: Shape,
-    threshold: u64,
-    capacity: u32,
-    full: Full,
-    updates: UpdateRows,
-    sketches: Vec<Private<K>>,
-    lanes: Vec<Lane>,
-    fold: Sight,
-    shown: Sight,
-    heavy: Heavy,
+    pub(crate) shape: Shape,
+    pub(crate) threshold: u64,
+    pub(crate) capacity: u32,
+    pub(crate) full: Full,
+    pub(crate) updates: UpdateRows,
+    pub(crate) sketches: Vec<Private<K>>,
+    pub(crate) lanes: Vec<Lane>,
+    pub(crate) fold: Sight,
+    pub(crate) shown: Sight,
+    pub(crate) heavy: Heavy,
     // How many of the heavy keys are shown, and how many were missed until then.
-    live: u32,
-    missed: u64,
-    seen: Vec<Counts>,
+    pub(crate) live: u32,
+    pub(crate) missed: u64,
+    pub(crate) seen: Vec<Counts>,
 }
 
 impl<K: Kind> Model for Lag<K> {
