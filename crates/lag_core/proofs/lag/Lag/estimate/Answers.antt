@@ -19,14 +19,14 @@ use Rattle.lag_core.proofs.Sizes.{cells_length, front_length, upto_length, cells
 use Rattle.lag_core.proofs.lag.Lag.estimate.Goals as goal
 
 pub estimate-requires-clause-cells : goal.estimate-requires-clause-cells
-estimate-requires-clause-cells g c κs within =
+estimate-requires-clause-cells g c =
     let r = g.K.Kind.rules in
     let V : Core g.row.K-Held.Denot = view g.row.K.Denot g.row.K-Held.Denot g.K.Kind c.self.inside in
     let h = c.self.invariant.1 in
     ap (λ (l : List ℤ). length l) c.cells.ensures ∙ cells_length r V.shape (workers_of V) V.shown _ h.shown
 
 pub estimate-requires-clause-values : goal.estimate-requires-clause-values
-estimate-requires-clause-values g c κs within =
+estimate-requires-clause-values g c =
     let r = g.K.Kind.rules in
     let V : Core g.row.K-Held.Denot = view g.row.K.Denot g.row.K-Held.Denot g.K.Kind c.self.inside in
     let h = c.self.invariant.1 in
