@@ -30,7 +30,7 @@ use Rattle.lag_core.proofs.Lists.{slot_below, made_same}
 use Rattle.lag_core.proofs.Sizes.{map_length}
 
 -- a front of a front
-take_take : {X : Type 0} (n m : ℕ) (xs : List X) → n ≤ m → take n (take m xs) ≡ take n xs
+pub take_take : {X : Type 0} (n m : ℕ) (xs : List X) → n ≤ m → take n (take m xs) ≡ take n xs
 take_take zero m xs le = refl
 take_take (suc n) zero xs le = absurd (omega arith)
 take_take (suc n) (suc m) [] le = refl

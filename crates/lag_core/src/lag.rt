@@ -68,7 +68,8 @@ impl<K: Kind> Lag<K> {
     ghost use Rattle.push_history.specs.declared.event.Event.TheVariants.{Update, Take, Publish, Ask};
     ghost use Rattle.push_history.specs.LagRun.{reply_to};
     ghost use Rattle.lag_core.specs.Workers.{terms_of};
-    ghost use Rattle.lag_core.specs.Lags.{StandsFor, Steps, IsWithin, workers_of};
+    ghost use Rattle.lag_core.specs.Lags.{StandsFor, Steps, IsWithin, state_after, workers_of};
+    ghost use Rattle.lag_core.specs.Laws.{Conserves, IsLawful};
 
     /// A run in which nothing has happened: a worker for each list of updates, lanes of so many
     /// messages, a live table of `heavy` keys whose estimate is at least `least`, and so many readers.
@@ -125,6 +126,10 @@ impl<K: Kind> Lag<K> {
         ensures stands { (events : List Event) → StandsFor K.stands K.rules self.old events →
             StandsFor K.stands K.rules self.new (events ++ event ∷ []) ×
             (result ≡ reply_to (terms_of K.rules self.old.limits) (length self.old.seen) events event) }
+        ensures lawful { (events : List Event) → StandsFor K.stands K.rules self.new events →
+            IsLawful (terms_of K.rules self.new.limits) (state_after K.rules self.new events) }
+        ensures conserves { (events : List Event) → StandsFor K.stands K.rules self.new events →
+            Conserves (terms_of K.rules self.new.limits) (state_after K.rules self.new events) }
     {
         self.run(event)
     }
