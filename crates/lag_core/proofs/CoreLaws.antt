@@ -93,23 +93,24 @@ module _ {H : Type 0} (stands : H → ℤ → ℤ → Type 0) (r : Rules) (v : C
     where
       amounts_of : (w : ℕ) (below : w < workers_of v) → All (λ m. r.is_value m.amount ≡ true) (worker_in s w).sent
       amounts_of w below = (its_state w below).amounts
+
       by : (w cell : ℕ) → w < workers_of v → whole r (updates_by (terms_of r v.limits) w) (worker_in s w).counted cell
           ≡ r.join (r.join (r.join (told_of r cell (messages_of w (take s.shown s.folded))) (told_of r cell (messages_of w (drop s.shown s.folded))))
-            (told_of r cell (drop (worker_in s w).taken (worker_in s w).sent))) (residue r (updates_by (terms_of r v.limits) w) (worker_in s w).sent (worker_in s w).counted cell)
+          (told_of r cell (drop (worker_in s w).taken (worker_in s w).sent))) (residue r (updates_by (terms_of r v.limits) w) (worker_in s w).sent (worker_in s w).counted cell)
       by w cell below =
           let U = updates_by (terms_of r v.limits) w in
           let x = worker_in s w in
           let its = its_state w below in
           let law = whole_is r laws v.limits.threshold (take x.counted U) x.sent x.refused (All-take (λ u. r.is_value u.value ≡ true) x.counted U its.can_count.values) (its_pushes w below)
-              x.counted cell (omega (arith, length-take-le x.counted U its.within)) in
+          x.counted cell (omega (arith, length-take-le x.counted U its.within)) in
           let split = told_all r x.sent x.counted cell its.numbers ∙ ap (told_of r cell) (sym (take-append-drop x.taken x.sent))
-              ∙ told_append r laws cell (take x.taken x.sent) (drop x.taken x.sent) (All-take (λ m. r.is_value m.amount ≡ true) x.taken x.sent its.amounts) (All-drop (λ m. r.is_value m.amount ≡ true) x.taken x.sent its.amounts) in
+          ∙ told_append r laws cell (take x.taken x.sent) (drop x.taken x.sent) (All-take (λ m. r.is_value m.amount ≡ true) x.taken x.sent its.amounts) (All-drop (λ m. r.is_value m.amount ≡ true) x.taken x.sent its.amounts) in
           let shown = take s.shown s.folded in
           let rest = drop s.shown s.folded in
           let folded : told_of r cell (take x.taken x.sent) ≡ r.join (told_of r cell (messages_of w shown)) (told_of r cell (messages_of w rest)) =
-              ap (told_of r cell) (sym (h.own w below) ∙ ap (messages_of w) (sym (take-append-drop s.shown s.folded)) ∙ filter-append (λ m. m.worker == w) shown rest)
-              ∙ told_append r laws cell (messages_of w shown) (messages_of w rest)
-                (All-filter (λ m. m.worker == w) (λ m. r.is_value m.amount ≡ true) shown (All-take (λ m. r.is_value m.amount ≡ true) s.shown s.folded h.amounts))
-                (All-filter (λ m. m.worker == w) (λ m. r.is_value m.amount ≡ true) rest (All-drop (λ m. r.is_value m.amount ≡ true) s.shown s.folded h.amounts)) in
+          ap (told_of r cell) (sym (h.own w below) ∙ ap (messages_of w) (sym (take-append-drop s.shown s.folded)) ∙ filter-append (λ m. m.worker == w) shown rest)
+          ∙ told_append r laws cell (messages_of w shown) (messages_of w rest)
+          (All-filter (λ m. m.worker == w) (λ m. r.is_value m.amount ≡ true) shown (All-take (λ m. r.is_value m.amount ≡ true) s.shown s.folded h.amounts))
+          (All-filter (λ m. m.worker == w) (λ m. r.is_value m.amount ≡ true) rest (All-drop (λ m. r.is_value m.amount ≡ true) s.shown s.folded h.amounts)) in
           sym (whole_first r U x.counted cell) ∙ law
           ∙ ap₂ r.join (split ∙ ap (λ (z : ℤ). r.join z (told_of r cell (drop x.taken x.sent))) folded) (left_first r U x.sent x.counted cell)

@@ -55,7 +55,7 @@ module _ {H : Type 0} (stands : H → ℤ → ℤ → Type 0) (r : Rules) (v : C
 
   pub update_steps : (q : Sketch H) (lane' : Queue) (reply : Reply) → length q.held ≡ length p.held
       → ((x : Worker) → IsWorkerAt stands (terms_of r v.limits) w p lane x
-        → IsWorkerAt stands (terms_of r v.limits) w q lane' (count_step (terms_of r v.limits) w x).0 × (reply ≡ (count_step (terms_of r v.limits) w x).1))
+      → IsWorkerAt stands (terms_of r v.limits) w q lane' (count_step (terms_of r v.limits) w x).0 × (reply ≡ (count_step (terms_of r v.limits) w x).1))
       → Steps stands r v (record v { sketches = set v.sketches w q; lanes = set v.lanes w lane' }) (Update w) reply
   unfolding lag_step
   update_steps q lane' reply same_held works = record {
@@ -67,35 +67,40 @@ module _ {H : Type 0} (stands : H → ℤ → ℤ → Type 0) (r : Rules) (v : C
         let y = (count_step t w x).0 in
         let its = h.each w p lane sketch_at lane_at in
         let done = works x its in
-        let kept = count_keeps t w x its.taken in
-        (record {
-          shape = h.shape;
-          workers = length-set s.workers w y ∙ h.workers;
-          sketches = length-set v.sketches w q ∙ h.sketches;
-          lanes = length-set v.lanes w lane' ∙ h.lanes;
-          each = λ k a b at_a at_b. elim (cases_eq w k) [
-              inl e ↦ here s h y done.0 k a b e (slot_set v.sketches w k q a at_a) (slot_set v.lanes w k lane' b at_b)
-            | inr ne ↦ there s h y k a b ne (slot_set v.sketches w k q a at_a) (slot_set v.lanes w k lane' b at_b) ];
-          cells = λ k a at. elim (slot_set v.sketches w k q a at) [
-              inl e ↦ ap (λ (z : Sketch H). length z.held) (sym e.1) ∙ same_held ∙ h.cells w p sketch_at
-            | inr e ↦ h.cells k a e.1 ];
-          fold = h.fold;
-          shown = h.shown;
-          shown_within = h.shown_within;
-          own = λ k below. elim (cases_eq w k) [
-              inl e ↦ subst (λ (j : ℕ). messages_of j s.folded ≡ take (get_or (set s.workers w y) j fresh_worker).taken (get_or (set s.workers w y) j fresh_worker).sent) e
+        let kept = count_keeps t w x its.taken in (
+          record {
+            shape = h.shape;
+            workers = length-set s.workers w y ∙ h.workers;
+            sketches = length-set v.sketches w q ∙ h.sketches;
+            lanes = length-set v.lanes w lane' ∙ h.lanes;
+            each = λ k a b at_a at_b. elim (cases_eq w k) [
+              | inl e ↦ here s h y done.0 k a b e (slot_set v.sketches w k q a at_a) (slot_set v.lanes w k lane' b at_b)
+              | inr ne ↦ there s h y k a b ne (slot_set v.sketches w k q a at_a) (slot_set v.lanes w k lane' b at_b)
+            ];
+            cells = λ k a at. elim (slot_set v.sketches w k q a at) [
+              | inl e ↦ ap (λ (z : Sketch H). length z.held) (sym e.1) ∙ same_held ∙ h.cells w p sketch_at
+              | inr e ↦ h.cells k a e.1
+            ];
+            fold = h.fold;
+            shown = h.shown;
+            shown_within = h.shown_within;
+            own = λ k below. elim (cases_eq w k) [
+              | inl e ↦ subst (λ (j : ℕ). messages_of j s.folded ≡ take (get_or (set s.workers w y) j fresh_worker).taken (get_or (set s.workers w y) j fresh_worker).sent) e
                   (h.own w within ∙ sym kept.1 ∙ ap (λ (n : ℕ). take n y.sent) (sym kept.0)
-                   ∙ ap (λ (z : Worker). take z.taken z.sent) (sym (itself s y h.workers)))
-            | inr ne ↦ h.own k below ∙ ap (λ (z : Worker). take z.taken z.sent) (sym (other s y k ne)) ];
-          sources = h.sources;
-          amounts = h.amounts;
-          heavy = h.heavy;
-          live = h.live;
-          live_within = h.live_within;
-          missed = h.missed;
-          readers = h.readers;
-          seen = h.seen;
-        }, done.1);
+                  ∙ ap (λ (z : Worker). take z.taken z.sent) (sym (itself s y h.workers)))
+              | inr ne ↦ h.own k below ∙ ap (λ (z : Worker). take z.taken z.sent) (sym (other s y k ne))
+            ];
+            sources = h.sources;
+            amounts = h.amounts;
+            heavy = h.heavy;
+            live = h.live;
+            live_within = h.live_within;
+            missed = h.missed;
+            readers = h.readers;
+            seen = h.seen;
+          },
+          done.1,
+        );
   }
     where
       here : (s : State) → IsCoreAt stands r v s → (y : Worker) → IsWorkerAt stands (terms_of r v.limits) w q lane' y → (k : ℕ) (a : Sketch H) (b : Queue) → w ≡ k
@@ -104,9 +109,10 @@ module _ {H : Type 0} (stands : H → ℤ → ℤ → Type 0) (r : Rules) (v : C
       here s h y done k a b e (inl ea) (inl eb) =
           subst (λ (j : ℕ). IsWorkerAt stands (terms_of r v.limits) j a b (get_or (set s.workers w y) j fresh_worker)) e
           (subst (λ (z : Worker). IsWorkerAt stands (terms_of r v.limits) w a b z) (sym (itself s y h.workers))
-           (subst (λ (z : Queue). IsWorkerAt stands (terms_of r v.limits) w a z y) eb.1 (subst (λ (z : Sketch H). IsWorkerAt stands (terms_of r v.limits) w z lane' y) ea.1 done)))
+          (subst (λ (z : Queue). IsWorkerAt stands (terms_of r v.limits) w a z y) eb.1 (subst (λ (z : Sketch H). IsWorkerAt stands (terms_of r v.limits) w z lane' y) ea.1 done)))
       here s h y done k a b e (inr ea) eb = absurd (ea.0 e)
       here s h y done k a b e (inl ea) (inr eb) = absurd (eb.0 e)
+
       there : (s : State) → IsCoreAt stands r v s → (y : Worker) → (k : ℕ) (a : Sketch H) (b : Queue) → w ≢ k
           → ((w ≡ k) × (q ≡ a)) ⊎ ((w ≢ k) × (slice_get v.sketches k ≡ Some a)) → ((w ≡ k) × (lane' ≡ b)) ⊎ ((w ≢ k) × (slice_get v.lanes k ≡ Some b))
           → IsWorkerAt stands (terms_of r v.limits) k a b (get_or (set s.workers w y) k fresh_worker)
@@ -216,9 +222,9 @@ module _ {H : Type 0} (stands : H → ℤ → ℤ → Type 0) (r : Rules) (v : C
           let same : w ≡ k = let g : m.worker ≡ k = grind (arith, nat_tests) in sym names_worker ∙ g in
           let y : Worker = record { counted = (worker_in s w).counted; sent = (worker_in s w).sent; refused = (worker_in s w).refused; taken = (worker_in s w).taken + 1 } in
           let grown : messages_of k s.folded ++ m ∷ [] ≡ take ((worker_in s w).taken + 1) (worker_in s w).sent =
-              ap (λ (ms : List Push). ms ++ m ∷ []) (subst (λ (j : ℕ). messages_of j s.folded ≡ take (worker_in s w).taken (worker_in s w).sent) same (h.own w within))
-              ∙ ap (λ (x : Push). take (worker_in s w).taken (worker_in s w).sent ++ x ∷ []) (sym is_oldest)
-              ∙ sym (take_more (worker_in s w).sent (worker_in s w).taken _ left) in
+          ap (λ (ms : List Push). ms ++ m ∷ []) (subst (λ (j : ℕ). messages_of j s.folded ≡ take (worker_in s w).taken (worker_in s w).sent) same (h.own w within))
+          ∙ ap (λ (x : Push). take (worker_in s w).taken (worker_in s w).sent ++ x ∷ []) (sym is_oldest)
+          ∙ sym (take_more (worker_in s w).sent (worker_in s w).taken _ left) in
           filter_push (λ (x : Push). x.worker == k) s.folded m true is ∙ grown
           ∙ ap (λ (z : Worker). take z.taken z.sent) (sym (itself s y h.workers) ∙ ap (λ (j : ℕ). get_or (set s.workers w y) j fresh_worker) same)
       own_more k below false is =
@@ -233,7 +239,7 @@ module _ {H : Type 0} (stands : H → ℤ → ℤ → Type 0) (r : Rules) (v : C
           let same_sketch : p ≡ a = let there : slice_get v.sketches w ≡ Some a = subst (λ (j : ℕ). slice_get v.sketches j ≡ Some a) (sym e.0) at in cc in
           subst (λ (j : ℕ). IsWorkerAt stands (terms_of r v.limits) j a b (get_or (set s.workers w y) j fresh_worker)) e.0
           (subst (λ (z : Worker). IsWorkerAt stands (terms_of r v.limits) w a b z) (sym (itself s y h.workers))
-           (subst (λ (z : Queue). IsWorkerAt stands (terms_of r v.limits) w a z y) e.1 (subst (λ (z : Sketch H). IsWorkerAt stands (terms_of r v.limits) w z lane' y) same_sketch one_taken)))
+          (subst (λ (z : Queue). IsWorkerAt stands (terms_of r v.limits) w a z y) e.1 (subst (λ (z : Sketch H). IsWorkerAt stands (terms_of r v.limits) w z lane' y) same_sketch one_taken)))
       each_after k a b at (inr e) =
           let y : Worker = record { counted = (worker_in s w).counted; sent = (worker_in s w).sent; refused = (worker_in s w).refused; taken = (worker_in s w).taken + 1 } in
           subst (λ (z : Worker). IsWorkerAt stands (terms_of r v.limits) k a b z) (sym (other s y k e.0)) (h.each k a b at e.1)

@@ -42,27 +42,30 @@ module _ {H : Type 0} (stands : H → ℤ → ℤ → Type 0) (r : Rules) (v : C
   publish_steps new is = subst (λ x. Steps stands r v x Publish Published) (sym is) (record {
     limits = refl;
     readers = refl;
-    step = λ s h. (record {
-      shape = h.shape;
-      workers = h.workers;
-      sketches = h.sketches;
-      lanes = h.lanes;
-      each = h.each;
-      cells = h.cells;
-      fold = h.fold;
-      shown = sight_shown r v.shape (workers_of v) v.fold s.folded h.fold;
-      shown_within = omega arith;
-      own = h.own;
-      sources = h.sources;
-      amounts = h.amounts;
-      heavy = h.heavy;
-      live = take_all (length v.heavy.keys) v.heavy.keys (omega arith) ∙ h.heavy.keys
-          ∙ ap (live_keys r v.shape v.heavy.limit v.heavy.least) (sym (take_all (length s.folded) s.folded (omega arith)));
-      live_within = omega arith;
-      missed = h.heavy.missed ∙ ap (λ (ms : List Push). min (missed_keys r v.shape v.heavy.limit v.heavy.least ms) 18446744073709551615) (sym (take_all (length s.folded) s.folded (omega arith)));
-      readers = h.readers;
-      seen = λ q front at. let old = h.seen q front at in (old.0, omega (arith, old.1, h.shown_within));
-    }, refl);
+    step = λ s h. (
+      record {
+        shape = h.shape;
+        workers = h.workers;
+        sketches = h.sketches;
+        lanes = h.lanes;
+        each = h.each;
+        cells = h.cells;
+        fold = h.fold;
+        shown = sight_shown r v.shape (workers_of v) v.fold s.folded h.fold;
+        shown_within = omega arith;
+        own = h.own;
+        sources = h.sources;
+        amounts = h.amounts;
+        heavy = h.heavy;
+        live = take_all (length v.heavy.keys) v.heavy.keys (omega arith) ∙ h.heavy.keys
+            ∙ ap (live_keys r v.shape v.heavy.limit v.heavy.least) (sym (take_all (length s.folded) s.folded (omega arith)));
+        live_within = omega arith;
+        missed = h.heavy.missed ∙ ap (λ (ms : List Push). min (missed_keys r v.shape v.heavy.limit v.heavy.least ms) 18446744073709551615) (sym (take_all (length s.folded) s.folded (omega arith)));
+        readers = h.readers;
+        seen = λ q front at. let old = h.seen q front at in (old.0, omega (arith, old.1, h.shown_within));
+      },
+      refl,
+    );
   })
 
   -- Ask
@@ -71,26 +74,29 @@ module _ {H : Type 0} (stands : H → ℤ → ℤ → Type 0) (r : Rules) (v : C
   ask_steps q new below is = subst (λ x. Steps stands r v x (Ask q) Answered) (sym is) (record {
     limits = refl;
     readers = length-set v.seen q v.shown.front;
-    step = λ s h. (record {
-      shape = h.shape;
-      workers = h.workers;
-      sketches = h.sketches;
-      lanes = h.lanes;
-      each = h.each;
-      cells = h.cells;
-      fold = h.fold;
-      shown = h.shown;
-      shown_within = h.shown_within;
-      own = h.own;
-      sources = h.sources;
-      amounts = h.amounts;
-      heavy = h.heavy;
-      live = h.live;
-      live_within = h.live_within;
-      missed = h.missed;
-      readers = length-set s.seen q s.shown ∙ h.readers ∙ sym (length-set v.seen q v.shown.front);
-      seen = λ p front at. seen_at s h p front (slot_set v.seen q p v.shown.front front at);
-    }, refl);
+    step = λ s h. (
+      record {
+        shape = h.shape;
+        workers = h.workers;
+        sketches = h.sketches;
+        lanes = h.lanes;
+        each = h.each;
+        cells = h.cells;
+        fold = h.fold;
+        shown = h.shown;
+        shown_within = h.shown_within;
+        own = h.own;
+        sources = h.sources;
+        amounts = h.amounts;
+        heavy = h.heavy;
+        live = h.live;
+        live_within = h.live_within;
+        missed = h.missed;
+        readers = length-set s.seen q s.shown ∙ h.readers ∙ sym (length-set v.seen q v.shown.front);
+        seen = λ p front at. seen_at s h p front (slot_set v.seen q p v.shown.front front at);
+      },
+      refl,
+    );
   })
     where
       seen_at : (s : State) → IsCoreAt stands r v s → (p : ℕ) (front : List ℕ) → ((q ≡ p) × (v.shown.front ≡ front)) ⊎ ((q ≢ p) × (slice_get v.seen p ≡ Some front))

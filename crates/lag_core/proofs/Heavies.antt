@@ -47,7 +47,7 @@ heavy_more r shape cells t messages m told h = by r.keyed refl
         let notes = ap (λ (c : List ℤ). notes_of r shape messages ++ record { key = m.key; estimate = r.estimate shape c m.key } ∷ []) told ∙ sym (notes_more r shape messages m) in
         subst (λ (b : Bool). HoldsHeavy r shape (if b then noted t m.key (r.estimate shape cells m.key) else t) (messages ++ m ∷ [])) (sym keyed)
         (holds_keyed r shape (noted t m.key (r.estimate shape cells m.key)) (messages ++ m ∷ []) keyed
-         (subst (HoldsLive (noted t m.key (r.estimate shape cells m.key))) notes after))
+        (subst (HoldsLive (noted t m.key (r.estimate shape cells m.key))) notes after))
     by false keyed =
         subst (λ (b : Bool). HoldsHeavy r shape (if b then noted t m.key (r.estimate shape cells m.key) else t) (messages ++ m ∷ [])) (sym keyed) (record {
           keys = h.keys ∙ unkeyed_keys r shape t.limit t.least messages keyed ∙ sym (unkeyed_keys r shape t.limit t.least (messages ++ m ∷ []) keyed);

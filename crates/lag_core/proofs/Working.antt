@@ -47,13 +47,13 @@ distance_next r U S n lt before =
 -- the message of the next update
 pub message_next : (r : Rules) (w : ℕ) (U : List Entry) (S : List Push) (n : ℕ) → n < length U → All (λ m. m.update < n) S
     → record {
-        worker = w;
-        packet = (update_at U n).packet;
-        update = n;
-        key = (update_at U n).key;
-        cell = (update_at U n).cell;
-        amount = r.gap (told_of r (update_at U n).cell S) (whole_of r (update_at U n).cell (take n U ++ update_at U n ∷ []));
-      } ≡ message_of r w U S n
+      worker = w;
+      packet = (update_at U n).packet;
+      update = n;
+      key = (update_at U n).key;
+      cell = (update_at U n).cell;
+      amount = r.gap (told_of r (update_at U n).cell S) (whole_of r (update_at U n).cell (take n U ++ update_at U n ∷ []));
+    } ≡ message_of r w U S n
 unfolding message_of
 message_next r w U S n lt before =
     let u = update_at U n in
@@ -194,8 +194,8 @@ module _ {H : Type 0} (stands : H → ℤ → ℤ → Type 0) (t : Terms) (w : �
     unfolding message_of told whole
     amount_is = ap (λ (x : Push). t.rules.is_value x.amount) message
         ∙ laws.gap_value _ _
-          (told_value t.rules laws (update_at (updates_by t w) s.counted).cell (messages_before s.counted s.sent) (All-filter (λ x. nat_lt x.update s.counted) (λ x. t.rules.is_value x.amount ≡ true) s.sent h.amounts))
-          (whole_value t.rules laws (update_at (updates_by t w) s.counted).cell (take (s.counted + 1) (updates_by t w)) (All-take (λ u. t.rules.is_value u.value ≡ true) (s.counted + 1) (updates_by t w) can.values))
+        (told_value t.rules laws (update_at (updates_by t w) s.counted).cell (messages_before s.counted s.sent) (All-filter (λ x. nat_lt x.update s.counted) (λ x. t.rules.is_value x.amount ≡ true) s.sent h.amounts))
+        (whole_value t.rules laws (update_at (updates_by t w) s.counted).cell (take (s.counted + 1) (updates_by t w)) (All-take (λ u. t.rules.is_value u.value ≡ true) (s.counted + 1) (updates_by t w) can.values))
 
     pub at_sent : StandsFor stands t.rules q (take s.counted (updates_by t w) ++ update_at (updates_by t w) s.counted ∷ []) (s.sent ++ m ∷ []) s.refused
         → IsWorkerAt stands t w q queue (record { counted = s.counted + 1; sent = s.sent ++ m ∷ []; refused = s.refused; taken = s.taken })
@@ -270,7 +270,7 @@ module _ {H : Type 0} (stands : H → ℤ → ℤ → Type 0) (t : Terms) (w : �
         let below : distance_at t.rules (updates_by t w) s.sent s.counted < t.threshold = omega (arith, near, sym distance_found, h.threshold) in
         let step = count_counted t w s lt below in
         let after = at_counted stands t w p q lane s h lt can_more same_threshold same_cells
-            (subst (λ e. StandsFor stands t.rules q (take s.counted (updates_by t w) ++ e ∷ []) s.sent s.refused) entry_is now) in
+        (subst (λ e. StandsFor stands t.rules q (take s.counted (updates_by t w) ++ e ∷ []) s.sent s.refused) entry_is now) in
         (subst (λ z. IsWorkerAt stands t w q lane z) (sym (ap (λ z. z.0) step)) after, sym (ap (λ z. z.1) step))
 
     module _ (far : p.threshold ≤ t.rules.distance (told_of t.rules u.cell s.sent) (t.rules.join (whole_of t.rules u.cell (take s.counted (updates_by t w))) v)) where
@@ -290,8 +290,8 @@ module _ {H : Type 0} (stands : H → ℤ → ℤ → Type 0) (t : Terms) (w : �
           let step = count_full t w s lt is_far (omega (arith, full, queue_length, h.capacity)) ∙ full_leaves t.full s leaves in
           let number : k ≡ s.counted = k_is ∙ counted_is in
           let after = at_refused stands t w p q lane s h lt can_more same_threshold same_cells
-              (subst (λ n. StandsFor stands t.rules q (take s.counted (updates_by t w) ++ update_at (updates_by t w) s.counted ∷ []) s.sent (s.refused ++ n ∷ [])) number
-               (subst (λ e. StandsFor stands t.rules q (take s.counted (updates_by t w) ++ e ∷ []) s.sent (s.refused ++ k ∷ [])) entry_is now)) full leaves in
+          (subst (λ n. StandsFor stands t.rules q (take s.counted (updates_by t w) ++ update_at (updates_by t w) s.counted ∷ []) s.sent (s.refused ++ n ∷ [])) number
+          (subst (λ e. StandsFor stands t.rules q (take s.counted (updates_by t w) ++ e ∷ []) s.sent (s.refused ++ k ∷ [])) entry_is now)) full leaves in
           (subst (λ z. IsWorkerAt stands t w q lane z) (sym (ap (λ z. z.0) step)) after, sym (ap (λ z. z.1) step))
 
       -- the message, as the code makes it, and as the sketch names it
@@ -301,42 +301,42 @@ module _ {H : Type 0} (stands : H → ℤ → ℤ → Type 0) (t : Terms) (w : �
           let e = entry_is in
           (λ i. record { worker = w; packet = u.packet; update = k_is i; key = u.key; cell = u.cell; amount = a_is i })
           ∙ (λ i. record {
-              worker = w;
-              packet = (e i).packet;
-              update = s.counted;
-              key = (e i).key;
-              cell = (e i).cell;
-              amount = t.rules.gap (told_of t.rules (e i).cell s.sent) (t.rules.join (whole_of t.rules (e i).cell (take s.counted (updates_by t w))) (e i).value);
-            })
+            worker = w;
+            packet = (e i).packet;
+            update = s.counted;
+            key = (e i).key;
+            cell = (e i).cell;
+            amount = t.rules.gap (told_of t.rules (e i).cell s.sent) (t.rules.join (whole_of t.rules (e i).cell (take s.counted (updates_by t w))) (e i).value);
+          })
           ∙ (λ i. record {
-              worker = w;
-              packet = (update_at (updates_by t w) s.counted).packet;
-              update = s.counted;
-              key = (update_at (updates_by t w) s.counted).key;
-              cell = (update_at (updates_by t w) s.counted).cell;
-              amount = t.rules.gap (told_of t.rules (update_at (updates_by t w) s.counted).cell s.sent)
+            worker = w;
+            packet = (update_at (updates_by t w) s.counted).packet;
+            update = s.counted;
+            key = (update_at (updates_by t w) s.counted).key;
+            cell = (update_at (updates_by t w) s.counted).cell;
+            amount = t.rules.gap (told_of t.rules (update_at (updates_by t w) s.counted).cell s.sent)
                 (sym (whole_own t.rules (take s.counted (updates_by t w)) (update_at (updates_by t w) s.counted)) i);
-            })
+          })
           ∙ message_next t.rules w (updates_by t w) s.sent s.counted lt h.numbers
 
       message_named : (k : ℕ) → k ≡ s.counted → record {
-          worker = w;
-          packet = u.packet;
-          update = k;
-          key = u.key;
-          cell = u.cell;
-          amount = t.rules.gap (told_of t.rules u.cell s.sent) (whole_of t.rules u.cell (take s.counted (updates_by t w) ++ record { packet = u.packet; key = u.key; cell = u.cell; value = v } ∷ []));
-        } ≡ message_of t.rules w (updates_by t w) s.sent s.counted
+        worker = w;
+        packet = u.packet;
+        update = k;
+        key = u.key;
+        cell = u.cell;
+        amount = t.rules.gap (told_of t.rules u.cell s.sent) (whole_of t.rules u.cell (take s.counted (updates_by t w) ++ record { packet = u.packet; key = u.key; cell = u.cell; value = v } ∷ []));
+      } ≡ message_of t.rules w (updates_by t w) s.sent s.counted
       message_named k k_is =
           let e = entry_is in
           (λ i. record {
-              worker = w;
-              packet = (e i).packet;
-              update = k_is i;
-              key = (e i).key;
-              cell = (e i).cell;
-              amount = t.rules.gap (told_of t.rules (e i).cell s.sent) (whole_of t.rules (e i).cell (take s.counted (updates_by t w) ++ e i ∷ []));
-            })
+            worker = w;
+            packet = (e i).packet;
+            update = k_is i;
+            key = (e i).key;
+            cell = (e i).cell;
+            amount = t.rules.gap (told_of t.rules (e i).cell s.sent) (whole_of t.rules (e i).cell (take s.counted (updates_by t w) ++ e i ∷ []));
+          })
           ∙ message_next t.rules w (updates_by t w) s.sent s.counted lt h.numbers
 
       pub step_sent : (laws : AreLaws t.rules) (a : ℤ) → a ≡ t.rules.gap (told_of t.rules u.cell s.sent) (t.rules.join (whole_of t.rules u.cell (take s.counted (updates_by t w))) v)
@@ -344,13 +344,13 @@ module _ {H : Type 0} (stands : H → ℤ → ℤ → Type 0) (t : Terms) (w : �
           → queue.messages ≡ lane.messages ++ record { worker = w; packet = u.packet; update = k; key = u.key; cell = u.cell; amount = a } ∷ [] → queue.capacity ≡ lane.capacity
           → length lane.messages < lane.capacity
           → StandsFor stands t.rules q (take s.counted (updates_by t w) ++ record { packet = u.packet; key = u.key; cell = u.cell; value = v } ∷ []) (s.sent ++ record {
-              worker = w;
-              packet = u.packet;
-              update = j;
-              key = u.key;
-              cell = u.cell;
-              amount = t.rules.gap (told_of t.rules u.cell s.sent) (whole_of t.rules u.cell (take s.counted (updates_by t w) ++ record { packet = u.packet; key = u.key; cell = u.cell; value = v } ∷ []));
-            } ∷ []) s.refused
+            worker = w;
+            packet = u.packet;
+            update = j;
+            key = u.key;
+            cell = u.cell;
+            amount = t.rules.gap (told_of t.rules u.cell s.sent) (whole_of t.rules u.cell (take s.counted (updates_by t w) ++ record { packet = u.packet; key = u.key; cell = u.cell; value = v } ∷ []));
+          } ∷ []) s.refused
           → IsWorkerAt stands t w q queue (count_step t w s).0 × (Pushed a ≡ (count_step t w s).1)
       step_sent laws a a_is k j k_is j_is queue added same_capacity room_left now =
           let m = message_of t.rules w (updates_by t w) s.sent s.counted in
@@ -358,18 +358,19 @@ module _ {H : Type 0} (stands : H → ℤ → ℤ → Type 0) (t : Terms) (w : �
           let step = count_pushed t w s lt is_far (omega (arith, room_left, queue_length, h.capacity)) in
           let named = message_named j (j_is ∙ counted_is) in
           let after = at_sent stands t w p q lane s h lt can_more same_threshold same_cells laws m refl queue
-              (added ∙ ap (λ (x : Push). lane.messages ++ x ∷ []) made) same_capacity
-              (subst (λ (x : Push). StandsFor stands t.rules q (take s.counted (updates_by t w) ++ update_at (updates_by t w) s.counted ∷ []) (s.sent ++ x ∷ []) s.refused) named
-               (subst (λ (e : Entry). StandsFor stands t.rules q (take s.counted (updates_by t w) ++ e ∷ []) (s.sent ++ record {
-                  worker = w;
-                  packet = u.packet;
-                  update = j;
-                  key = u.key;
-                  cell = u.cell;
-                  amount = t.rules.gap (told_of t.rules u.cell s.sent) (whole_of t.rules u.cell (take s.counted (updates_by t w) ++ record { packet = u.packet; key = u.key; cell = u.cell; value = v } ∷ []));
-                } ∷ []) s.refused) entry_is now)) in
-          (subst (λ z. IsWorkerAt stands t w q queue z) (sym (ap (λ z. z.0) step)) after,
-           ap (λ (x : Push). Pushed x.amount) made ∙ sym (ap (λ z. z.1) step))
+          (added ∙ ap (λ (x : Push). lane.messages ++ x ∷ []) made) same_capacity
+          (subst (λ (x : Push). StandsFor stands t.rules q (take s.counted (updates_by t w) ++ update_at (updates_by t w) s.counted ∷ []) (s.sent ++ x ∷ []) s.refused) named
+          (subst (λ (e : Entry). StandsFor stands t.rules q (take s.counted (updates_by t w) ++ e ∷ []) (s.sent ++ record {
+            worker = w;
+            packet = u.packet;
+            update = j;
+            key = u.key;
+            cell = u.cell;
+            amount = t.rules.gap (told_of t.rules u.cell s.sent) (whole_of t.rules u.cell (take s.counted (updates_by t w) ++ record { packet = u.packet; key = u.key; cell = u.cell; value = v } ∷ []));
+          } ∷ []) s.refused) entry_is now)) in (
+            subst (λ z. IsWorkerAt stands t w q queue z) (sym (ap (λ z. z.0) step)) after,
+            ap (λ (x : Push). Pushed x.amount) made ∙ sym (ap (λ z. z.1) step),
+          )
 
 -- nothing is left
 module _ {H : Type 0} (stands : H → ℤ → ℤ → Type 0) (t : Terms) (w : ℕ) (p : Sketch H) (lane : Queue) (s : Worker) (h : IsWorkerAt stands t w p lane s) where

@@ -50,7 +50,7 @@ pub record IsCoreAt {Held : Type 0} (stands : Held → ℤ → ℤ → Type 0) (
   pub sketches : length v.sketches ≡ workers_of v
   pub lanes : length v.lanes ≡ workers_of v
   pub each : (w : ℕ) (p : Sketch Held) (q : Queue) → slice_get v.sketches w ≡ Some p → slice_get v.lanes w ≡ Some q
-    → IsWorkerAt stands (terms_of r v.limits) w p q (worker_in s w)
+      → IsWorkerAt stands (terms_of r v.limits) w p q (worker_in s w)
   pub cells : (w : ℕ) (p : Sketch Held) → slice_get v.sketches w ≡ Some p → length p.held ≡ size_of v.shape
   pub fold : IsSightOf r v.shape (workers_of v) v.fold s.folded
   pub shown : IsSightOf r v.shape (workers_of v) v.shown (take s.shown s.folded)
@@ -64,7 +64,7 @@ pub record IsCoreAt {Held : Type 0} (stands : Held → ℤ → ℤ → Type 0) (
   pub missed : v.missed ≡ min (missed_keys r v.shape v.heavy.limit v.heavy.least (take s.shown s.folded)) 18446744073709551615
   pub readers : length s.seen ≡ length v.seen
   pub seen : (q : ℕ) (front : List ℕ) → slice_get v.seen q ≡ Some front
-    → (front ≡ front_of (workers_of v) (take (slice_index_or s.seen q 0) s.folded)) × (slice_index_or s.seen q 0 ≤ s.shown)
+      → (front ≡ front_of (workers_of v) (take (slice_index_or s.seen q 0) s.folded)) × (slice_index_or s.seen q 0 ≤ s.shown)
 
 -- the event names a worker or a reader that there is
 abbrev pub IsWithin : ℕ → ℕ → Event → Type 0
@@ -82,7 +82,7 @@ pub record Steps {Held : Type 0} (stands : Held → ℤ → ℤ → Type 0) (r :
   pub limits : new.limits ≡ old.limits
   pub readers : length new.seen ≡ length old.seen
   pub step : (s : State) → IsCoreAt stands r old s
-    → IsCoreAt stands r new (lag_step (terms_of r old.limits) s e).0 × (reply ≡ (lag_step (terms_of r old.limits) s e).1)
+      → IsCoreAt stands r new (lag_step (terms_of r old.limits) s e).0 × (reply ≡ (lag_step (terms_of r old.limits) s e).1)
 
 -- the state after these events
 abbrev pub state_after : {Held : Type 0} → Rules → Core Held → List Event → State

@@ -22,7 +22,7 @@ returns-then-KEYED-clause-heavy g c =
     let cells : c.cells.result.now ≡ joined_at r.join c.args.fold.now.cells m.cell m.amount = c.cells.ensures ∙ ap (λ (s : Sight). s.cells) c.add.ensures in
     let exact : to_z w64 (of_z w64 c.estimate-estimate.result) ≡ c.estimate-estimate.result = search rules in
     let estimate : to_z w64 (of_z w64 c.estimate-estimate.result) ≡ r.estimate c.args.shape.now (joined_at r.join c.args.fold.now.cells m.cell m.amount) m.key =
-        exact ∙ c.estimate-estimate.ensures ∙ ap (λ (l : List ℤ). r.estimate c.args.shape.now l m.key) cells in
+    exact ∙ c.estimate-estimate.ensures ∙ ap (λ (l : List ℤ). r.estimate c.args.shape.now l m.key) cells in
     let keyed : r.keyed ≡ true = sym (g.met.K.Kind g.world.𝓛 g.world.𝓜 g.world.𝓡 ((λ x y. y), (λ x. x), (λ x. x), (λ x. x))).is_keyed ∙ sym c.KEYED.ensures ∙ c.if-KEYED.true in
     c.note.ensures.noted ∙ ap (λ (e : ℤ). noted c.args.heavy.now m.key e) estimate
     ∙ sym (ap (λ (b : Bool). if b then noted c.args.heavy.now m.key (r.estimate c.args.shape.now (joined_at r.join c.args.fold.now.cells m.cell m.amount) m.key) else c.args.heavy.now) keyed)

@@ -13,16 +13,17 @@ workers-preserved g c =
     let rows = c.args.updates.now.items in
     let row = c.row-item.result in
     let below : c.workers.row-index < length rows = omega (arith, c.workers-test.true, ap (λ (l : List (Listed Update)). length l) c.as_slice-row-items.ensures) in
-    let is = c.row-item.is ∙ ap (λ (l : List (Listed Update)). get_or l c.workers.row-index row) c.as_slice-row-items.ensures in
-    (zip_grown (λ (row : Listed Update) (p : Sketch g.row.K-Held.Denot). IsFreshSketch g.K.Kind.stands g.K.Kind.rules (size_of c.args.shape.now) c.args.threshold row.items p)
-        rows c.workers.row-index row c.workers.sketches.items c.push_item.new.items.items c.in_ok-sketch.sketch below is c.workers.invariant.0
-        (record {
-          sketch = c.in_ok-sketch.ensures.fresh;
-          idle = c.in_ok-sketch.ensures.idle;
-          held = c.in_ok-sketch.ensures.cells;
-          threshold = c.in_ok-sketch.ensures.threshold;
-          room = c.in_ok-sketch.ensures.room ∙ c.len.ensures;
-          small = omega (arith, c.len.ensures);
-        }) c.in_ok-push_item.ensures,
-     zip_grown (λ (row : Listed Update) (lane : Queue). lane ≡ fresh_lane c.args.capacity) rows c.workers.row-index row c.workers.lanes.items c.push_item-in-workers.new.items.items c.in_ok-lane.lane
-        below is c.workers.invariant.1 (λ i. record { messages = c.in_ok-lane.ensures.empty i; capacity = c.in_ok-lane.ensures.capacity i }) c.in_ok-push_item-2.ensures)
+    let is = c.row-item.is ∙ ap (λ (l : List (Listed Update)). get_or l c.workers.row-index row) c.as_slice-row-items.ensures in (
+      zip_grown (λ (row : Listed Update) (p : Sketch g.row.K-Held.Denot). IsFreshSketch g.K.Kind.stands g.K.Kind.rules (size_of c.args.shape.now) c.args.threshold row.items p)
+          rows c.workers.row-index row c.workers.sketches.items c.push_item.new.items.items c.in_ok-sketch.sketch below is c.workers.invariant.0
+          (record {
+            sketch = c.in_ok-sketch.ensures.fresh;
+            idle = c.in_ok-sketch.ensures.idle;
+            held = c.in_ok-sketch.ensures.cells;
+            threshold = c.in_ok-sketch.ensures.threshold;
+            room = c.in_ok-sketch.ensures.room ∙ c.len.ensures;
+            small = omega (arith, c.len.ensures);
+          }) c.in_ok-push_item.ensures,
+      zip_grown (λ (row : Listed Update) (lane : Queue). lane ≡ fresh_lane c.args.capacity) rows c.workers.row-index row c.workers.lanes.items c.push_item-in-workers.new.items.items c.in_ok-lane.lane
+          below is c.workers.invariant.1 (λ i. record { messages = c.in_ok-lane.ensures.empty i; capacity = c.in_ok-lane.ensures.capacity i }) c.in_ok-push_item-2.ensures,
+    )

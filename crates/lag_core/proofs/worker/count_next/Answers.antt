@@ -47,15 +47,15 @@ returns-in-Some-2-clause-stands g c = λ l s lt is next waits h.
     let mid = c.count.ensures.stands u.packet u.key before s.sent s.refused h.sketch in
     let after = before ++ record { packet = u.packet; key = u.key; cell = u.cell; value = v } ∷ [] in
     let now = of_some (StandsFor g.K.Kind.stands r c.sent.new.self after s.sent s.refused)
-        (λ cell. StandsFor g.K.Kind.stands r c.sent.new.self after (s.sent ++ record {
-            worker = c.args.worker;
-            packet = u.packet;
-            update = c.count.new.self.counted - 1;
-            key = u.key;
-            cell = cell;
-            amount = r.gap (told_of r cell s.sent) (whole_of r cell after);
-          } ∷ []) s.refused)
-        c.count.new.self.due u.cell c.in-Some-2.ensures.marked (c.sent.ensures.stands c.args.worker u.packet u.key after s.sent s.refused mid) in
+    (λ cell. StandsFor g.K.Kind.stands r c.sent.new.self after (s.sent ++ record {
+      worker = c.args.worker;
+      packet = u.packet;
+      update = c.count.new.self.counted - 1;
+      key = u.key;
+      cell = cell;
+      amount = r.gap (told_of r cell s.sent) (whole_of r cell after);
+    } ∷ []) s.refused)
+    c.count.new.self.due u.cell c.in-Some-2.ensures.marked (c.sent.ensures.stands c.args.worker u.packet u.key after s.sent s.refused mid) in
     let a : ℤ = to_z w64 (of_z w64 c.in-Some.field-0) in
     let amount : a ≡ c.in-Some.field-0 = search rules in
     let same : c.in-Some.field-0 ≡ c.in-Some-2.amount = search rules in

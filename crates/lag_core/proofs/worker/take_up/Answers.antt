@@ -11,7 +11,7 @@ use Rattle.lag_core.proofs.worker.take_up.Goals as goal
 pub returns-then-next-len-clause-stands : goal.returns-then-next-len-clause-stands
 returns-then-next-len-clause-stands g c = λ l s full rows h.
     let all : length (updates_by (terms_of g.K.Kind.rules l) c.args.worker) ≤ c.args.sketch.now.counted =
-        omega (arith, ap (λ (x : List Update). length x) rows, c.if-next-len.true, c.len.ensures, c.counted-next.ensures) in
+    omega (arith, ap (λ (x : List Update). length x) rows, c.if-next-len.true, c.len.ensures, c.counted-next.ensures) in
     step_over g.K.Kind.stands (terms_of g.K.Kind.rules l) c.args.worker c.args.sketch.now c.args.lane.now s h all
 
 pub must_wait-requires-clause-cell : goal.must_wait-requires-clause-cell
@@ -48,4 +48,4 @@ returns-clause-stands g c = λ l s full rows h.
     let lt : s.counted < length U = omega (arith, ap (λ (x : List Update). length x) rows, c.if-next-len.false, c.len.ensures, number) in
     c.count_next.ensures.stands l s lt is number
     (λ wait fills. near_enough g.K.Kind.stands t c.args.worker c.args.sketch.now c.args.lane.now s h c.get.result.now is lt
-     (c.must_wait.ensures.near c.if-must_wait.false (sym full ∙ wait) fills (take s.counted U) s.sent s.refused h.sketch)) h
+    (c.must_wait.ensures.near c.if-must_wait.false (sym full ∙ wait) fills (take s.counted U) s.sent s.refused h.sketch)) h

@@ -40,5 +40,5 @@ returns g c =
     let h = c.self.invariant.1 in
     let exact : to_z w64 (of_z w64 c.estimate.result) ≡ c.estimate.result = search rules in
     subst (λ (o : Core g.row.K-Held.Denot). (events : List Event) → StandsFor g.K.Kind.stands r o events
-        → to_z w64 (of_z w64 c.estimate.result) ≡ r.estimate o.shape (shown_cells r o.shape (sent_by_each (state_after r o events)) (front_of (workers_of o) (shown_messages (state_after r o events)))) c.args.key.now) c.self.view_is
+    → to_z w64 (of_z w64 c.estimate.result) ≡ r.estimate o.shape (shown_cells r o.shape (sent_by_each (state_after r o events)) (front_of (workers_of o) (shown_messages (state_after r o events)))) c.args.key.now) c.self.view_is
     (λ events at. exact ∙ c.estimate.ensures ∙ ap (λ (l : List ℤ). r.estimate V.shape l c.args.key.now) (c.cells.ensures ∙ cells_are g.K.Kind.stands r (g.met.K.Kind g.world.𝓛 g.world.𝓜 g.world.𝓡 ((λ x y. y), (λ x. x), (λ x. x), (λ x. x))).laws V (state_after r V events) at))

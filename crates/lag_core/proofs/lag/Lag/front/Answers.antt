@@ -32,6 +32,6 @@ returns g c =
     let V : Core g.row.K-Held.Denot = view g.row.K.Denot g.row.K-Held.Denot g.K.Kind c.self.inside in
     let h = c.self.invariant.1 in
     subst (λ (o : Core g.row.K-Held.Denot). (events : List Event) → StandsFor g.K.Kind.stands r o events
-        → c.get.result.now ≡ get_or (front_of (workers_of o) (shown_messages (state_after r o events))) c.args.worker 0) c.self.view_is
+    → c.get.result.now ≡ get_or (front_of (workers_of o) (shown_messages (state_after r o events))) c.args.worker 0) c.self.view_is
     (λ events at. sym (get_or_from_slice_get c.front.result.now.items c.args.worker c.get.result.now 0 c.get.ensures)
-     ∙ ap (λ (l : List ℕ). get_or l c.args.worker 0) (c.front.ensures ∙ at.shown.front))
+    ∙ ap (λ (l : List ℕ). get_or l c.args.worker 0) (c.front.ensures ∙ at.shown.front))

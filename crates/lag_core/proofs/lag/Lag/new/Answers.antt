@@ -21,38 +21,38 @@ invariant_of-result g c =
     let r = g.K.Kind.rules in
     let rows = c.args.updates.items in
     let V : Core g.row.K-Held.Denot = record {
-        shape = c.args.shape;
-        limits = record { threshold = c.args.threshold; capacity = c.args.capacity; full = c.args.full; updates = map (λ (l : Listed Entry). l.items) rows };
-        sketches = c.in_ok-sketches.sketches.items;
-        lanes = c.in_ok-sketches.lanes.items;
-        fold = c.in_ok-fold.fold;
-        shown = c.in_ok-shown.shown;
-        heavy = c.in_ok-heavy.heavy;
-        live = 0;
-        missed = 0;
-        seen = map (λ (l : Listed ℕ). l.items) c.in_ok-seen.seen.items;
-      } in
+      shape = c.args.shape;
+      limits = record { threshold = c.args.threshold; capacity = c.args.capacity; full = c.args.full; updates = map (λ (l : Listed Entry). l.items) rows };
+      sketches = c.in_ok-sketches.sketches.items;
+      lanes = c.in_ok-sketches.lanes.items;
+      fold = c.in_ok-fold.fold;
+      shown = c.in_ok-shown.shown;
+      heavy = c.in_ok-heavy.heavy;
+      live = 0;
+      missed = 0;
+      seen = map (λ (l : Listed ℕ). l.items) c.in_ok-seen.seen.items;
+    } in
     let workers : c.len-workers.result ≡ workers_of V = c.len-workers.ensures ∙ sym (map_length (λ (l : Listed Entry). l.items) rows) in
     let wide : replicate {A = ℕ} c.len-workers.result 0 ≡ replicate (workers_of V) 0 = ap (λ (n : ℕ). replicate {A = ℕ} n 0) workers in
     let fresh = core_fresh g.K.Kind.stands r V c.requires.shape
-        (zip_length _ rows c.in_ok-sketches.sketches.items c.in_ok-sketches.ensures.sketches ∙ sym (map_length (λ (l : Listed Entry). l.items) rows))
-        (zip_length _ rows c.in_ok-sketches.lanes.items c.in_ok-sketches.ensures.lanes ∙ sym (map_length (λ (l : Listed Entry). l.items) rows))
-        (λ w row p row_at p_at.
-          let back = map_back (λ (l : Listed Entry). l.items) rows w row row_at in
-          subst (λ (us : List Entry). IsFreshSketch g.K.Kind.stands r (size_of c.args.shape) c.args.threshold us p) back.2
-          (zip_at (λ (l : Listed Entry) (q : Sketch g.row.K-Held.Denot). IsFreshSketch g.K.Kind.stands r (size_of c.args.shape) c.args.threshold l.items q)
-           rows c.in_ok-sketches.sketches.items w back.0 p c.in_ok-sketches.ensures.sketches back.1 p_at))
-        (λ w q q_at.
-          let below : w < length rows = omega (arith, slot_below c.in_ok-sketches.lanes.items w q q_at, zip_length _ rows c.in_ok-sketches.lanes.items c.in_ok-sketches.ensures.lanes) in
-          let row = some_at rows w below in
-          zip_at (λ (l : Listed Entry) (z : Queue). z ≡ fresh_lane c.args.capacity) rows c.in_ok-sketches.lanes.items w row.0 q c.in_ok-sketches.ensures.lanes row.1 q_at)
-        (All-map (λ (us : List Entry). All (λ u. u.cell < size_of c.args.shape) us) (λ (l : Listed Entry). l.items) rows c.requires.cells)
-        (All-map (λ (us : List Entry). HoldValues r us) (λ (l : Listed Entry). l.items) rows c.requires.values)
-        (zeros r c.args.shape (workers_of V) c.in_ok-fold.fold c.in_ok-fold.ensures.cells (c.in_ok-fold.ensures.front ∙ wide) (c.in_ok-fold.ensures.upto ∙ wide))
-        (zeros r c.args.shape (workers_of V) c.in_ok-shown.shown c.in_ok-shown.ensures.cells (c.in_ok-shown.ensures.front ∙ wide) (c.in_ok-shown.ensures.upto ∙ wide))
-        (ap (λ (t : HeavyTable). t.keys) c.in_ok-heavy.ensures.fresh) (ap (λ (t : HeavyTable). t.missed) c.in_ok-heavy.ensures.fresh) refl refl
-        (All-map (λ (f : List ℕ). f ≡ replicate (workers_of V) 0) (λ (l : Listed ℕ). l.items) c.in_ok-seen.seen.items
-         (subst (λ (z : List ℕ). All (λ (l : Listed ℕ). l.items ≡ z) c.in_ok-seen.seen.items) wide c.in_ok-seen.ensures.zeros)) in
+    (zip_length _ rows c.in_ok-sketches.sketches.items c.in_ok-sketches.ensures.sketches ∙ sym (map_length (λ (l : Listed Entry). l.items) rows))
+    (zip_length _ rows c.in_ok-sketches.lanes.items c.in_ok-sketches.ensures.lanes ∙ sym (map_length (λ (l : Listed Entry). l.items) rows))
+    (λ w row p row_at p_at.
+    let back = map_back (λ (l : Listed Entry). l.items) rows w row row_at in
+    subst (λ (us : List Entry). IsFreshSketch g.K.Kind.stands r (size_of c.args.shape) c.args.threshold us p) back.2
+    (zip_at (λ (l : Listed Entry) (q : Sketch g.row.K-Held.Denot). IsFreshSketch g.K.Kind.stands r (size_of c.args.shape) c.args.threshold l.items q)
+    rows c.in_ok-sketches.sketches.items w back.0 p c.in_ok-sketches.ensures.sketches back.1 p_at))
+    (λ w q q_at.
+    let below : w < length rows = omega (arith, slot_below c.in_ok-sketches.lanes.items w q q_at, zip_length _ rows c.in_ok-sketches.lanes.items c.in_ok-sketches.ensures.lanes) in
+    let row = some_at rows w below in
+    zip_at (λ (l : Listed Entry) (z : Queue). z ≡ fresh_lane c.args.capacity) rows c.in_ok-sketches.lanes.items w row.0 q c.in_ok-sketches.ensures.lanes row.1 q_at)
+    (All-map (λ (us : List Entry). All (λ u. u.cell < size_of c.args.shape) us) (λ (l : Listed Entry). l.items) rows c.requires.cells)
+    (All-map (λ (us : List Entry). HoldValues r us) (λ (l : Listed Entry). l.items) rows c.requires.values)
+    (zeros r c.args.shape (workers_of V) c.in_ok-fold.fold c.in_ok-fold.ensures.cells (c.in_ok-fold.ensures.front ∙ wide) (c.in_ok-fold.ensures.upto ∙ wide))
+    (zeros r c.args.shape (workers_of V) c.in_ok-shown.shown c.in_ok-shown.ensures.cells (c.in_ok-shown.ensures.front ∙ wide) (c.in_ok-shown.ensures.upto ∙ wide))
+    (ap (λ (t : HeavyTable). t.keys) c.in_ok-heavy.ensures.fresh) (ap (λ (t : HeavyTable). t.missed) c.in_ok-heavy.ensures.fresh) refl refl
+    (All-map (λ (f : List ℕ). f ≡ replicate (workers_of V) 0) (λ (l : Listed ℕ). l.items) c.in_ok-seen.seen.items
+    (subst (λ (z : List ℕ). All (λ (l : Listed ℕ). l.items ≡ z) c.in_ok-seen.seen.items) wide c.in_ok-seen.ensures.zeros)) in
     (lag_run (terms_of r V.limits) (length V.seen) [], fresh)
 
 pub returns-clause-fresh : goal.returns-clause-fresh
@@ -60,36 +60,36 @@ returns-clause-fresh g c =
     let r = g.K.Kind.rules in
     let rows = c.args.updates.items in
     let V : Core g.row.K-Held.Denot = record {
-        shape = c.args.shape;
-        limits = record { threshold = c.args.threshold; capacity = c.args.capacity; full = c.args.full; updates = map (λ (l : Listed Entry). l.items) rows };
-        sketches = c.in_ok-sketches.sketches.items;
-        lanes = c.in_ok-sketches.lanes.items;
-        fold = c.in_ok-fold.fold;
-        shown = c.in_ok-shown.shown;
-        heavy = c.in_ok-heavy.heavy;
-        live = 0;
-        missed = 0;
-        seen = map (λ (l : Listed ℕ). l.items) c.in_ok-seen.seen.items;
-      } in
+      shape = c.args.shape;
+      limits = record { threshold = c.args.threshold; capacity = c.args.capacity; full = c.args.full; updates = map (λ (l : Listed Entry). l.items) rows };
+      sketches = c.in_ok-sketches.sketches.items;
+      lanes = c.in_ok-sketches.lanes.items;
+      fold = c.in_ok-fold.fold;
+      shown = c.in_ok-shown.shown;
+      heavy = c.in_ok-heavy.heavy;
+      live = 0;
+      missed = 0;
+      seen = map (λ (l : Listed ℕ). l.items) c.in_ok-seen.seen.items;
+    } in
     let workers : c.len-workers.result ≡ workers_of V = c.len-workers.ensures ∙ sym (map_length (λ (l : Listed Entry). l.items) rows) in
     let wide : replicate {A = ℕ} c.len-workers.result 0 ≡ replicate (workers_of V) 0 = ap (λ (n : ℕ). replicate {A = ℕ} n 0) workers in
     let fresh = core_fresh g.K.Kind.stands r V c.requires.shape
-        (zip_length _ rows c.in_ok-sketches.sketches.items c.in_ok-sketches.ensures.sketches ∙ sym (map_length (λ (l : Listed Entry). l.items) rows))
-        (zip_length _ rows c.in_ok-sketches.lanes.items c.in_ok-sketches.ensures.lanes ∙ sym (map_length (λ (l : Listed Entry). l.items) rows))
-        (λ w row p row_at p_at.
-          let back = map_back (λ (l : Listed Entry). l.items) rows w row row_at in
-          subst (λ (us : List Entry). IsFreshSketch g.K.Kind.stands r (size_of c.args.shape) c.args.threshold us p) back.2
-          (zip_at (λ (l : Listed Entry) (q : Sketch g.row.K-Held.Denot). IsFreshSketch g.K.Kind.stands r (size_of c.args.shape) c.args.threshold l.items q)
-           rows c.in_ok-sketches.sketches.items w back.0 p c.in_ok-sketches.ensures.sketches back.1 p_at))
-        (λ w q q_at.
-          let below : w < length rows = omega (arith, slot_below c.in_ok-sketches.lanes.items w q q_at, zip_length _ rows c.in_ok-sketches.lanes.items c.in_ok-sketches.ensures.lanes) in
-          let row = some_at rows w below in
-          zip_at (λ (l : Listed Entry) (z : Queue). z ≡ fresh_lane c.args.capacity) rows c.in_ok-sketches.lanes.items w row.0 q c.in_ok-sketches.ensures.lanes row.1 q_at)
-        (All-map (λ (us : List Entry). All (λ u. u.cell < size_of c.args.shape) us) (λ (l : Listed Entry). l.items) rows c.requires.cells)
-        (All-map (λ (us : List Entry). HoldValues r us) (λ (l : Listed Entry). l.items) rows c.requires.values)
-        (zeros r c.args.shape (workers_of V) c.in_ok-fold.fold c.in_ok-fold.ensures.cells (c.in_ok-fold.ensures.front ∙ wide) (c.in_ok-fold.ensures.upto ∙ wide))
-        (zeros r c.args.shape (workers_of V) c.in_ok-shown.shown c.in_ok-shown.ensures.cells (c.in_ok-shown.ensures.front ∙ wide) (c.in_ok-shown.ensures.upto ∙ wide))
-        (ap (λ (t : HeavyTable). t.keys) c.in_ok-heavy.ensures.fresh) (ap (λ (t : HeavyTable). t.missed) c.in_ok-heavy.ensures.fresh) refl refl
-        (All-map (λ (f : List ℕ). f ≡ replicate (workers_of V) 0) (λ (l : Listed ℕ). l.items) c.in_ok-seen.seen.items
-         (subst (λ (z : List ℕ). All (λ (l : Listed ℕ). l.items ≡ z) c.in_ok-seen.seen.items) wide c.in_ok-seen.ensures.zeros)) in
+    (zip_length _ rows c.in_ok-sketches.sketches.items c.in_ok-sketches.ensures.sketches ∙ sym (map_length (λ (l : Listed Entry). l.items) rows))
+    (zip_length _ rows c.in_ok-sketches.lanes.items c.in_ok-sketches.ensures.lanes ∙ sym (map_length (λ (l : Listed Entry). l.items) rows))
+    (λ w row p row_at p_at.
+    let back = map_back (λ (l : Listed Entry). l.items) rows w row row_at in
+    subst (λ (us : List Entry). IsFreshSketch g.K.Kind.stands r (size_of c.args.shape) c.args.threshold us p) back.2
+    (zip_at (λ (l : Listed Entry) (q : Sketch g.row.K-Held.Denot). IsFreshSketch g.K.Kind.stands r (size_of c.args.shape) c.args.threshold l.items q)
+    rows c.in_ok-sketches.sketches.items w back.0 p c.in_ok-sketches.ensures.sketches back.1 p_at))
+    (λ w q q_at.
+    let below : w < length rows = omega (arith, slot_below c.in_ok-sketches.lanes.items w q q_at, zip_length _ rows c.in_ok-sketches.lanes.items c.in_ok-sketches.ensures.lanes) in
+    let row = some_at rows w below in
+    zip_at (λ (l : Listed Entry) (z : Queue). z ≡ fresh_lane c.args.capacity) rows c.in_ok-sketches.lanes.items w row.0 q c.in_ok-sketches.ensures.lanes row.1 q_at)
+    (All-map (λ (us : List Entry). All (λ u. u.cell < size_of c.args.shape) us) (λ (l : Listed Entry). l.items) rows c.requires.cells)
+    (All-map (λ (us : List Entry). HoldValues r us) (λ (l : Listed Entry). l.items) rows c.requires.values)
+    (zeros r c.args.shape (workers_of V) c.in_ok-fold.fold c.in_ok-fold.ensures.cells (c.in_ok-fold.ensures.front ∙ wide) (c.in_ok-fold.ensures.upto ∙ wide))
+    (zeros r c.args.shape (workers_of V) c.in_ok-shown.shown c.in_ok-shown.ensures.cells (c.in_ok-shown.ensures.front ∙ wide) (c.in_ok-shown.ensures.upto ∙ wide))
+    (ap (λ (t : HeavyTable). t.keys) c.in_ok-heavy.ensures.fresh) (ap (λ (t : HeavyTable). t.missed) c.in_ok-heavy.ensures.fresh) refl refl
+    (All-map (λ (f : List ℕ). f ≡ replicate (workers_of V) 0) (λ (l : Listed ℕ). l.items) c.in_ok-seen.seen.items
+    (subst (λ (z : List ℕ). All (λ (l : Listed ℕ). l.items ≡ z) c.in_ok-seen.seen.items) wide c.in_ok-seen.ensures.zeros)) in
     fresh

@@ -27,7 +27,7 @@ invariant_of-self g c =
     let V : Core g.row.K-Held.Denot = view g.row.K.Denot g.row.K-Held.Denot g.K.Kind c.self.inside in
     let core : Sight → ℕ → ℕ → Core g.row.K-Held.Denot = λ a b d. record V { shown = a; live = b; missed = d } in
     let steps = publish_steps g.K.Kind.stands g.K.Kind.rules V (core c.copy_from.new.self c.len-self-inside.result c.missed-self-inside.result)
-        (λ i. core (c.copy_from.ensures i) (c.len-self-inside.ensures i) (c.missed-self-inside.ensures i)) in
+    (λ i. core (c.copy_from.ensures i) (c.len-self-inside.ensures i) (c.missed-self-inside.ensures i)) in
     ((lag_step (terms_of g.K.Kind.rules V.limits) c.self.invariant.0 Publish).0, (steps.step c.self.invariant.0 c.self.invariant.1).0)
 
 pub returns : goal.returns
@@ -35,5 +35,5 @@ returns g c =
     let V : Core g.row.K-Held.Denot = view g.row.K.Denot g.row.K-Held.Denot g.K.Kind c.self.inside in
     let core : Sight → ℕ → ℕ → Core g.row.K-Held.Denot = λ a b d. record V { shown = a; live = b; missed = d } in
     let steps = publish_steps g.K.Kind.stands g.K.Kind.rules V (core c.copy_from.new.self c.len-self-inside.result c.missed-self-inside.result)
-        (λ i. core (c.copy_from.ensures i) (c.len-self-inside.ensures i) (c.missed-self-inside.ensures i)) in
+    (λ i. core (c.copy_from.ensures i) (c.len-self-inside.ensures i) (c.missed-self-inside.ensures i)) in
     subst (λ (o : Core g.row.K-Held.Denot). Steps g.K.Kind.stands g.K.Kind.rules o (core c.copy_from.new.self c.len-self-inside.result c.missed-self-inside.result) Publish Published) c.self.view_is steps

@@ -27,5 +27,5 @@ returns g c =
     let lane_at = read_at c.self.inside.lanes.items w c.index.result.now (omega (arith, below, h.lanes)) c.index.ensures in
     let sketch = some_at c.self.inside.sketches.items w (omega (arith, below, h.sketches)) in
     subst (λ (o : Core g.row.K-Held.Denot). (events : List Event) → StandsFor g.K.Kind.stands r o events
-        → c.len.result ≡ length (worker_in (state_after r o events) w).sent - (worker_in (state_after r o events) w).taken) c.self.view_is
+    → c.len.result ≡ length (worker_in (state_after r o events) w).sent - (worker_in (state_after r o events) w).taken) c.self.view_is
     (λ events at. c.len.ensures.len ∙ queued_is g.K.Kind.stands r (g.met.K.Kind g.world.𝓛 g.world.𝓜 g.world.𝓡 ((λ x y. y), (λ x. x), (λ x. x), (λ x. x))).laws V (state_after r V events) at w sketch.0 c.index.result.now sketch.1 lane_at)

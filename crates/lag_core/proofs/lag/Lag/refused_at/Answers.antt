@@ -40,7 +40,7 @@ returns g c =
     let sketch_at = read_at c.self.inside.sketches.items w c.index.result.now (omega (arith, below, h.sketches)) c.index.ensures in
     let lane = some_at c.self.inside.lanes.items w (omega (arith, below, h.lanes)) in
     subst (λ (o : Core g.row.K-Held.Denot). (events : List Event) → StandsFor g.K.Kind.stands r o events
-        → c.refused_at.result ≡ is_refused c.args.update (worker_in (state_after r o events) w).refused) c.self.view_is
+    → c.refused_at.result ≡ is_refused c.args.update (worker_in (state_after r o events) w).refused) c.self.view_is
     (λ events at.
-      let x = worker_in (state_after r V events) w in
-      c.refused_at.ensures.stands (take x.counted (updates_by (terms_of r V.limits) w)) x.sent x.refused (at.each w c.index.result.now lane.0 sketch_at lane.1).sketch)
+    let x = worker_in (state_after r V events) w in
+    c.refused_at.ensures.stands (take x.counted (updates_by (terms_of r V.limits) w)) x.sent x.refused (at.each w c.index.result.now lane.0 sketch_at lane.1).sketch)

@@ -28,9 +28,9 @@ returns g c =
     let lane = some_at c.self.inside.lanes.items w (omega (arith, below, h.lanes)) in
     let exact : to_z w64 (of_z w64 c.residue.result) ≡ c.residue.result = search rules in
     subst (λ (o : Core g.row.K-Held.Denot). (events : List Event) → StandsFor g.K.Kind.stands r o events
-        → to_z w64 (of_z w64 c.residue.result) ≡ residue r (updates_by (terms_of r o.limits) w) (worker_in (state_after r o events) w).sent (worker_in (state_after r o events) w).counted c.args.cell) c.self.view_is
+    → to_z w64 (of_z w64 c.residue.result) ≡ residue r (updates_by (terms_of r o.limits) w) (worker_in (state_after r o events) w).sent (worker_in (state_after r o events) w).counted c.args.cell) c.self.view_is
     (λ events at.
-      let x = worker_in (state_after r V events) w in
-      let its = at.each w c.index.result.now lane.0 sketch_at lane.1 in
-      exact ∙ c.residue.ensures.stands (take x.counted (updates_by (terms_of r V.limits) w)) x.sent x.refused its.sketch
-      ∙ residue_first r (updates_by (terms_of r V.limits) w) x.sent x.counted c.args.cell its.within)
+    let x = worker_in (state_after r V events) w in
+    let its = at.each w c.index.result.now lane.0 sketch_at lane.1 in
+    exact ∙ c.residue.ensures.stands (take x.counted (updates_by (terms_of r V.limits) w)) x.sent x.refused its.sketch
+    ∙ residue_first r (updates_by (terms_of r V.limits) w) x.sent x.counted c.args.cell its.within)

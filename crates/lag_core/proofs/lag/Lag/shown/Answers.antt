@@ -33,5 +33,5 @@ returns g c =
     let below : c.args.cell < size_of V.shape = subst (λ (o : Core g.row.K-Held.Denot). c.args.cell < size_of o.shape) (sym c.self.view_is) c.requires in
     let exact : to_z w64 (of_z w64 c.cell.result) ≡ c.cell.result = search rules in
     subst (λ (o : Core g.row.K-Held.Denot). (events : List Event) → StandsFor g.K.Kind.stands r o events
-        → to_z w64 (of_z w64 c.cell.result) ≡ shown_of r (sent_by_each (state_after r o events)) (front_of (workers_of o) (shown_messages (state_after r o events))) c.args.cell) c.self.view_is
+    → to_z w64 (of_z w64 c.cell.result) ≡ shown_of r (sent_by_each (state_after r o events)) (front_of (workers_of o) (shown_messages (state_after r o events))) c.args.cell) c.self.view_is
     (λ events at. exact ∙ c.cell.ensures ∙ cell_is g.K.Kind.stands r (g.met.K.Kind g.world.𝓛 g.world.𝓜 g.world.𝓡 ((λ x y. y), (λ x. x), (λ x. x), (λ x. x))).laws V (state_after r V events) at c.args.cell below)

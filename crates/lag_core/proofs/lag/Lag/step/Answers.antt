@@ -13,7 +13,7 @@ returns-clause-stands g c = λ events at.
     let old = c.args.self.now in
     let now = c.run.ensures.step (lag_run (terms_of r old.limits) (length old.seen) events) at in
     let reached = sym (run_more (terms_of r old.limits) (length old.seen) events c.args.event)
-        ∙ (λ i. lag_run (terms_of r (sym c.run.ensures.limits i)) (sym c.run.ensures.readers i) (events ++ c.args.event ∷ [])) in
+    ∙ (λ i. lag_run (terms_of r (sym c.run.ensures.limits i)) (sym c.run.ensures.readers i) (events ++ c.args.event ∷ [])) in
     (subst (λ (s : State). IsCoreAt g.K.Kind.stands r c.run.new.self s) reached now.0, now.1)
 
 pub returns-clause-lawful : goal.returns-clause-lawful

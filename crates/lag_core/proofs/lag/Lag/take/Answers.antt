@@ -138,7 +138,7 @@ invariant_of-self-in-Some g c =
     let core : Sight → HeavyTable → Core g.row.K-Held.Denot = λ a b. record V { lanes = set V.lanes w c.pop.new.self; fold = a; heavy = b } in
     let one = take_one g.K.Kind.stands r V w sketch.0 c.index_mut.result.now below sketch.1 lane_at m c.pop.new.self c.in-Some.ensures.messages c.pop.ensures.capacity in
     let now : core c.fold_message.new.fold c.fold_message.new.heavy ≡ core (with_message r.join V.fold m) (with_note r V.shape (with_message r.join V.fold m).cells V.heavy m) =
-        λ i. core (c.fold_message.ensures.fold i) (c.fold_message.ensures.heavy i) in
+    λ i. core (c.fold_message.ensures.fold i) (c.fold_message.ensures.heavy i) in
     let steps = subst (λ (o : Core g.row.K-Held.Denot). Steps g.K.Kind.stands r V o (Take w) (Took m.amount)) (sym now) one in
     ((lag_step (terms_of r V.limits) s (Take w)).0, (steps.step s h).0)
 
@@ -156,7 +156,7 @@ returns-in-Some g c =
     let core : Sight → HeavyTable → Core g.row.K-Held.Denot = λ a b. record V { lanes = set V.lanes w c.pop.new.self; fold = a; heavy = b } in
     let one = take_one g.K.Kind.stands r V w sketch.0 c.index_mut.result.now below sketch.1 lane_at m c.pop.new.self c.in-Some.ensures.messages c.pop.ensures.capacity in
     let now : core c.fold_message.new.fold c.fold_message.new.heavy ≡ core (with_message r.join V.fold m) (with_note r V.shape (with_message r.join V.fold m).cells V.heavy m) =
-        λ i. core (c.fold_message.ensures.fold i) (c.fold_message.ensures.heavy i) in
+    λ i. core (c.fold_message.ensures.fold i) (c.fold_message.ensures.heavy i) in
     let steps = subst (λ (o : Core g.row.K-Held.Denot). Steps g.K.Kind.stands r V o (Take w) (Took m.amount)) (sym now) one in
     let exact : to_z w64 (of_z w64 m.amount) ≡ m.amount = search rules in
     subst (λ (z : ℤ). Steps g.K.Kind.stands r c.args.self.now (core c.fold_message.new.fold c.fold_message.new.heavy) (Take w) (Took z)) (sym exact)

@@ -21,7 +21,7 @@ take_up-requires-after_bounds g c κs within =
     let sketch_at = read_at c.self.inside.sketches.items w c.index_mut.result.now (omega (arith, below, h.sketches)) c.index_mut.ensures.value in
     let lane_at = read_at c.self.inside.lanes.items w c.index_mut-2.result.now (omega (arith, below, h.lanes)) c.index_mut-2.ensures.value in
     let rows : updates_by (terms_of r V.limits) w ≡ c.get-updates.result.now.items =
-        get_or_from_slice_get V.limits.updates w c.get-updates.result.now.items [] (map_at (λ (l : Listed Entry). l.items) c.self.inside.updates.items w c.get-updates.result.now c.get-updates.ensures) in
+    get_or_from_slice_get V.limits.updates w c.get-updates.result.now.items [] (map_at (λ (l : Listed Entry). l.items) c.self.inside.updates.items w c.get-updates.result.now c.get-updates.ensures) in
     subst (λ (us : List Entry). CanCount r us c.index_mut.result.now) rows (h.each w c.index_mut.result.now c.index_mut-2.result.now sketch_at lane_at).can_count
 
 pub invariant_of-self : goal.invariant_of-self
@@ -34,9 +34,9 @@ invariant_of-self g c =
     let sketch_at = read_at c.self.inside.sketches.items w c.index_mut.result.now (omega (arith, below, h.sketches)) c.index_mut.ensures.value in
     let lane_at = read_at c.self.inside.lanes.items w c.index_mut-2.result.now (omega (arith, below, h.lanes)) c.index_mut-2.ensures.value in
     let rows : updates_by (terms_of r V.limits) w ≡ c.get-updates.result.now.items =
-        get_or_from_slice_get V.limits.updates w c.get-updates.result.now.items [] (map_at (λ (l : Listed Entry). l.items) c.self.inside.updates.items w c.get-updates.result.now c.get-updates.ensures) in
+    get_or_from_slice_get V.limits.updates w c.get-updates.result.now.items [] (map_at (λ (l : Listed Entry). l.items) c.self.inside.updates.items w c.get-updates.result.now c.get-updates.ensures) in
     let steps = update_steps g.K.Kind.stands r V w c.index_mut.result.now c.index_mut-2.result.now below sketch_at lane_at c.take_up.new.sketch c.take_up.new.lane c.take_up.result
-        c.take_up.ensures.cells (λ x its. c.take_up.ensures.stands V.limits x refl rows its) in
+    c.take_up.ensures.cells (λ x its. c.take_up.ensures.stands V.limits x refl rows its) in
     ((lag_step (terms_of r V.limits) c.self.invariant.0 (Update w)).0, (steps.step c.self.invariant.0 h).0)
 
 pub returns : goal.returns
@@ -49,8 +49,8 @@ returns g c =
     let sketch_at = read_at c.self.inside.sketches.items w c.index_mut.result.now (omega (arith, below, h.sketches)) c.index_mut.ensures.value in
     let lane_at = read_at c.self.inside.lanes.items w c.index_mut-2.result.now (omega (arith, below, h.lanes)) c.index_mut-2.ensures.value in
     let rows : updates_by (terms_of r V.limits) w ≡ c.get-updates.result.now.items =
-        get_or_from_slice_get V.limits.updates w c.get-updates.result.now.items [] (map_at (λ (l : Listed Entry). l.items) c.self.inside.updates.items w c.get-updates.result.now c.get-updates.ensures) in
+    get_or_from_slice_get V.limits.updates w c.get-updates.result.now.items [] (map_at (λ (l : Listed Entry). l.items) c.self.inside.updates.items w c.get-updates.result.now c.get-updates.ensures) in
     let steps = update_steps g.K.Kind.stands r V w c.index_mut.result.now c.index_mut-2.result.now below sketch_at lane_at c.take_up.new.sketch c.take_up.new.lane c.take_up.result
-        c.take_up.ensures.cells (λ x its. c.take_up.ensures.stands V.limits x refl rows its) in
+    c.take_up.ensures.cells (λ x its. c.take_up.ensures.stands V.limits x refl rows its) in
     subst (λ (o : Core g.row.K-Held.Denot). Steps g.K.Kind.stands r o
-        (record V { sketches = set V.sketches w c.take_up.new.sketch; lanes = set V.lanes w c.take_up.new.lane }) (Update w) c.take_up.result) c.self.view_is steps
+    (record V { sketches = set V.sketches w c.take_up.new.sketch; lanes = set V.lanes w c.take_up.new.lane }) (Update w) c.take_up.result) c.self.view_is steps

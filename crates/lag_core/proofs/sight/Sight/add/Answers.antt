@@ -11,9 +11,9 @@ returns g c =
     let inside = c.self.inside in
     let amount : to_z w64 (of_z w64 m.amount) ≡ m.amount = search rules in
     let cells : c.join_into.new.cells.items ≡ joined_at join inside.cells.items m.cell m.amount =
-        c.join_into.ensures ∙ ap (λ a. joined_at join inside.cells.items m.cell a) amount in
+    c.join_into.ensures ∙ ap (λ a. joined_at join inside.cells.items m.cell a) amount in
     let front : c.set.new.self.items ≡ set inside.front.items m.worker (get_or inside.front.items m.worker 0 + 1) =
-        c.set.ensures.items ∙ ap (λ (n : ℕ). set inside.front.items m.worker (n + 1)) (sym (get_or_from_slice_get inside.front.items m.worker c.get.result.now 0 c.get.ensures)) in
+    c.set.ensures.items ∙ ap (λ (n : ℕ). set inside.front.items m.worker (n + 1)) (sym (get_or_from_slice_get inside.front.items m.worker c.get.result.now 0 c.get.ensures)) in
     let upto : c.set-2.new.self.items ≡ set inside.upto.items m.worker (m.update + 1) = c.set-2.ensures.items ∙ ap (λ (n : ℕ). set inside.upto.items m.worker (n + 1)) c.from.ensures in
     let sight : List ℤ → List ℕ → List ℕ → Sight = λ x y z. record { cells = x; front = y; upto = z } in
     (λ i. sight (cells i) (front i) (upto i)) ∙ ap (λ (s : Sight). with_message join s m) c.self.view_is
