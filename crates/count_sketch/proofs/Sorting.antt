@@ -1,6 +1,6 @@
 -- Numbers that were put in rising order by moves alone are the numbers in rising order.
-use Rattle.std.proofs.Common.{◌≡◌, ◌<◌, ◌≤◌, ◌+◌, ℕ, ℤ, pos, negsuc, ◌≤ℤ◌, ◌<ℤ◌, Bool, true, false, cond, List, [], ◌∷◌, zero, suc, length, get_or, refl, sym, ap, ap₂, subst, ◌∙◌, arith, IsPermutation, IsSorted, inl, inr}
-use Rattle.std.specs.Prelude.{int_lt, int_le, count_by, sum_by}
+use Rattle.std.proofs.Common.{◌≡◌, ◌<◌, ◌≤◌, ◌+◌, ℕ, ℤ, pos, Bool, true, false, cond, List, [], ◌∷◌, zero, suc, length, get_or, refl, sym, ap, ap₂, ◌∙◌, arith, IsPermutation, IsSorted}
+use Rattle.std.specs.Prelude.{int_lt, count_by}
 use Rattle.std.specs.Ordering.{int_cmp, is_lt}
 use Rattle.std.specs.declared.cmp.Ordering.TheVariants.{Less, Equal, Greater}
 use Rattle.std.proofs.lemmas.Bool.{true≢false}
@@ -40,7 +40,7 @@ count-inserted p x (y ∷ ys) = by_test (int_lt y x) refl (count-inserted p x ys
   by_test : (test : Bool) → int_lt y x ≡ test → count_by p (inserted x ys) ≡ count_by p (x ∷ ys) → count_by p (inserted x (y ∷ ys)) ≡ count_by p (x ∷ y ∷ ys)
   by_test true less more =
       let deep : count_by p (y ∷ inserted x ys) ≡ count_by p (x ∷ y ∷ ys) =
-          omega (arith, count-cons p y (inserted x ys), more, count-cons p x ys, count-cons p x (y ∷ ys), count-cons p y ys) in
+      omega (arith, count-cons p y (inserted x ys), more, count-cons p x ys, count-cons p x (y ∷ ys), count-cons p y ys) in
       ap (λ b. count_by p (if b then y ∷ inserted x ys else x ∷ y ∷ ys)) less ∙ deep
   by_test false past more = ap (λ b. count_by p (if b then y ∷ inserted x ys else x ∷ y ∷ ys)) past
 
@@ -96,10 +96,10 @@ rising_once (x ∷ xs) [] up up' same =
     let all = same (λ z. true) in absurd (omega (arith, count-cons (λ z. true) x xs))
 rising_once (x ∷ xs) (y ∷ ys) up up' same =
     let first : x ≡ y = same_from_both x y (first_not_below x y xs ys up.0 (same (λ z. int_lt z x)))
-          (first_not_below y x ys xs up'.0 (sym (same (λ z. int_lt z y)))) in
+    (first_not_below y x ys xs up'.0 (sym (same (λ z. int_lt z y)))) in
     ap₂ (λ z zs. z ∷ zs) first (rising_once xs ys up.1 up'.1
-      (λ p. let heads : cond {A = ℕ} (p x) 1 0 ≡ cond (p y) 1 0 = ap (λ z. cond {A = ℕ} (p z) 1 0) first in
-        omega (arith, same p, count-cons p x xs, count-cons p y ys)))
+    (λ p. let heads : cond {A = ℕ} (p x) 1 0 ≡ cond (p y) 1 0 = ap (λ z. cond {A = ℕ} (p z) 1 0) first in
+    omega (arith, same p, count-cons p x xs, count-cons p y ys)))
 
 -- what holds at each index holds of each number
 all_from_index : (P : ℤ → Type 0) (xs : List ℤ) → ((k : ℕ) → k < length xs → P (get_or xs k (pos 0))) → AllByRecursion P xs
@@ -108,9 +108,10 @@ all_from_index P (x ∷ xs) at = (at zero (omega arith), all_from_index P xs (λ
 
 rises_by_index : (ys : List ℤ) → ((i j : ℕ) → i ≤ j → j < length ys → int_lt (get_or ys j (pos 0)) (get_or ys i (pos 0)) ≡ false) → IsRising ys
 rises_by_index [] far = tt
-rises_by_index (y ∷ ys) far =
-    (all_from_index (λ z. int_lt z y ≡ false) ys (λ k within. far zero (suc k) (omega arith) (omega arith)),
-     rises_by_index ys (λ i j order within. far (suc i) (suc j) (omega arith) (omega arith)))
+rises_by_index (y ∷ ys) far = (
+  all_from_index (λ z. int_lt z y ≡ false) ys (λ k within. far zero (suc k) (omega arith) (omega arith)),
+  rises_by_index ys (λ i j order within. far (suc i) (suc j) (omega arith) (omega arith)),
+)
 
 less_of_cmp : (x y : ℤ) → is_lt (int_cmp x y) ≡ false → int_lt x y ≡ false
 less_of_cmp x y h = by_test (int_lt x y) refl where
@@ -127,4 +128,4 @@ sorted_rises ys up = rises_by_index ys (λ i j order within.
 pub sorted_permutation : (xs ys : List ℤ) → IsPermutation xs ys → IsSorted int_cmp ys → ys ≡ sorted_of xs
 sorted_permutation xs ys moved up =
     rising_once ys (sorted_of xs) (sorted_rises ys up) (rising-sorted_of xs)
-      (λ p. sum_by-IsPermutation (λ y. cond (p y) 1 0) xs ys moved ∙ sym (count-sorted_of p xs))
+    (λ p. sum_by-IsPermutation (λ y. cond (p y) 1 0) xs ys moved ∙ sym (count-sorted_of p xs))

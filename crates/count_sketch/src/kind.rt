@@ -8,7 +8,9 @@ ghost use Rattle.hash_rows.specs.Sums.{StandsForSums};
 ghost use Rattle.hash_rows.specs.declared.options.Sketch.TheVariants.{CountSketch as CountSketchSketch};
 
 use crate::lower_median;
-use hash_rows::{Kind, Packet, Shape, Sketch, SumHeld, cell_in_row, hash_in_row, key_hash, row_hash};
+use hash_rows::{
+    Kind, Packet, Shape, Sketch, SumHeld, cell_in_row, hash_in_row, key_hash, row_hash,
+};
 use packet_key::FlowKey;
 
 /// Count Sketch: a packet adds its amount to its key's cell in each row, with a sign by the row,

@@ -1,5 +1,5 @@
 -- What a private register stands for: the laws of a kind on held values.
-use Rattle.std.proofs.Common.{◌≡◌, ◌≤◌, ◌+◌, ◌/◌, ◌%◌, ℕ, ℤ, pos, true, Option, Some, refl, sym, ap₂, subst, ◌∙◌, arith}
+use Rattle.std.proofs.Common.{◌≡◌, ◌≤◌, ◌+◌, ◌/◌, ◌%◌, ℕ, ℤ, pos, true, Some, refl, sym, ap₂, subst, arith}
 use Rattle.std.specs.Prelude.{unsigned_abs, int_le}
 use Rattle.hash_rows.specs.Sketches.{is_rank, rank_small}
 use Rattle.hash_rows.proofs.RankLaws.{ranks_are, ranks_back}
@@ -14,7 +14,7 @@ pub ranks_for_values : (h : RankHeld) (told whole : ℤ) → StandsForRanks h to
 ranks_for_values h told whole stands =
     let ranks = ranks_are h.told h.whole stands.most stands.behind in
     subst (λ t. (is_rank t ≡ true) × (is_rank whole ≡ true) × (int_le t whole ≡ true)) (sym stands.told_is)
-      (subst (λ w. (is_rank (pos h.told) ≡ true) × (is_rank w ≡ true) × (int_le (pos h.told) w ≡ true)) (sym stands.whole_is) ranks)
+    (subst (λ w. (is_rank (pos h.told) ≡ true) × (is_rank w ≡ true) × (int_le (pos h.told) w ≡ true)) (sym stands.whole_is) ranks)
 
 pub small_ranks : (h : RankHeld) (told whole : ℤ) → StandsForRanks h told whole → rank_small (pos h.told) (pos h.whole) ≡ rank_small told whole
 small_ranks h told whole stands = ap₂ rank_small (sym stands.told_is) (sym stands.whole_is)

@@ -1,5 +1,5 @@
 -- What a private cell of a sum stands for: the laws of a kind on held values.
-use Rattle.std.proofs.Common.{◌≡◌, ℤ, pos, Bool, true, Option, Some, refl, sym, ap}
+use Rattle.std.proofs.Common.{◌≡◌, ℤ, pos, true, Some, refl, sym, ap}
 use Rattle.hash_rows.specs.declared.sums.SumHeld.{SumHeld}
 use Rattle.hash_rows.specs.Sketches.{is_sum, small_gap, sum_small}
 use Rattle.hash_rows.specs.Sums.{StandsForSums}

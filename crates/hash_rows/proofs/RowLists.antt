@@ -1,5 +1,5 @@
 -- Lists made row by row, and the values of a table.
-use Rattle.std.proofs.Common.{◌≡◌, ◌<◌, ◌≤◌, ◌+◌, ℕ, ℤ, pos, negsuc, zero, suc, true, inl, inr, List, length, map, fold, get_or, refl, sym, ap, ap₂, ◌∙◌, arith}
+use Rattle.std.proofs.Common.{◌≡◌, ◌<◌, ◌+◌, ℕ, ℤ, pos, negsuc, zero, suc, true, inl, inr, List, length, map, fold, refl, sym, ap, ap₂, ◌∙◌, arith}
 use Rattle.std.specs.Int.{int_min}
 use Rattle.std.specs.List.{range_with_len}
 use Rattle.std.proofs.lemmas.Bool.{cases_lt}
@@ -25,13 +25,13 @@ pub least_from_top : (f : ℕ → ℤ) (n : ℕ) → 0 < n → is_sum (f 0) ≡ 
 least_from_top f zero some value = absurd (omega arith)
 least_from_top f (suc n) some value =
     ap (λ x. fold int_min x (map f (range_with_len (0 + 1) n))) (below_top (f 0) value) where
-  below_top : (x : ℤ) → is_sum x ≡ true → int_min (pos 9223372036854775807) x ≡ x
-  below_top (pos n) h = grind arith
-  below_top (negsuc n) h = refl
+      below_top : (x : ℤ) → is_sum x ≡ true → int_min (pos 9223372036854775807) x ≡ x
+      below_top (pos n) h = grind arith
+      below_top (negsuc n) h = refl
 
 -- what a list of values has at any place is a value
 pub value_at_any : (r : Rules) → AreLaws r → (cells : List ℤ) (cell : ℕ) → AreValues r cells → r.is_value (value_at cells cell) ≡ true
 value_at_any r laws cells cell values = elim (cases_lt cell (length cells)) [
-    inl within ↦ values cell (pos 0) within
+  | inl within ↦ values cell (pos 0) within
   | inr past ↦ ap r.is_value (get_or_past cells cell (pos 0) past) ∙ laws.zero_value
-  ]
+]

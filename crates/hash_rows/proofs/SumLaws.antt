@@ -1,14 +1,14 @@
 -- The laws of the kinds that join by sums modulo 2 ^ 64.
-use Rattle.std.proofs.Common.{◌≡◌, ◌<◌, ◌≤◌, ◌^◌, ℕ, ℤ, pos, negsuc, ◌+ℤ◌, ◌-ℤ◌, ◌≤ℤ◌, Bool, true, false, Option, Some, None, nat_le, if◌then◌else◌, List, refl, sym, ap, subst, ◌∙◌, arith}
-use Rattle.std.specs.Int.{int_wrap, int_wrapping_add, int_wrapping_sub, int_wrapping_neg, w64}
+use Rattle.std.proofs.Common.{◌≡◌, ◌<◌, ◌≤◌, ◌^◌, ℕ, ℤ, pos, negsuc, ◌+ℤ◌, ◌-ℤ◌, ◌≤ℤ◌, Bool, true, false, Some, nat_le, if◌then◌else◌, List, refl, sym, ap, subst, ◌∙◌, arith}
+use Rattle.std.specs.Int.{int_wrap, int_wrapping_neg, w64}
 use Rattle.std.specs.Prelude.{FitsSigned, unsigned_abs, neg_ℤ, nat_lt}
 use Rattle.std.proofs.lemmas.Int.{wrapping_add_is, wrapping_neg_is, wrapping_sub_is, int_wrap-add_left, int_wrap-add_right, int_wrap_fits, SFits-int_wrap, ints}
 use Rattle.packet_key.specs.declared.key.FlowKey.{FlowKey}
 use Rattle.hash_rows.specs.declared.shape.Shape.{Shape}
 use Rattle.hash_rows.specs.declared.shape.Packet.{Packet}
 use Rattle.hash_rows.specs.Hash.{row_hash_of}
-use Rattle.hash_rows.specs.Rules.{Rules, AreLaws, sums}
-use Rattle.hash_rows.specs.Sketches.{is_sum, sum_join, sum_gap, sum_distance, sum_small, small_gap, signed_in_row, count_min_value, count_min_estimate, count_sketch_value, count_sketch_estimate}
+use Rattle.hash_rows.specs.Rules.{AreLaws, sums}
+use Rattle.hash_rows.specs.Sketches.{is_sum, sum_join, sum_gap, small_gap, signed_in_row, count_min_value, count_min_estimate, count_sketch_value, count_sketch_estimate}
 
 -- a number of 64 bits, as the library says it
 pub fits_sum : (a : ℤ) → is_sum a ≡ true → FitsSigned w64 a
@@ -89,7 +89,7 @@ amount_sum : (n : ℕ) → n < 2 ^ 32 → is_sum (pos n) ≡ true
 amount_sum n small = grind arith
 
 signed_sum : (key : FlowKey) (row n : ℕ) → n < 2 ^ 32 → is_sum (signed_in_row key row (pos n)) ≡ true
-signed_sum key row n small = by_test (nat_lt (row_hash_of key row) 9223372036854775808) where
+signed_sum key row n small = by_test (nat_lt (row_hash_of key row) (2 ^ 63)) where
   by_test : (test : Bool) → is_sum (if test then pos n else int_wrapping_neg w64 (pos n)) ≡ true
   by_test true = amount_sum n small
   by_test false = ap is_sum (wrapping_neg_is w64 (pos n) (fits_sum (pos n) (amount_sum n small))) ∙ sum_fits _ (SFits-int_wrap w64 (neg_ℤ (pos n)))

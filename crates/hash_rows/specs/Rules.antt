@@ -74,7 +74,7 @@ pub record AreLaws (r : Rules) : Type 0 where
   pub behind_zero : (a : ℤ) → r.is_value a ≡ true → r.is_behind (pos 0) a ≡ true
   pub behind_self : (a : ℤ) → r.is_value a ≡ true → r.is_behind a a ≡ true
   pub behind_join : (told whole a : ℤ) → r.is_value told ≡ true → r.is_value whole ≡ true → r.is_value a ≡ true
-    → r.is_behind told whole ≡ true → r.is_behind told (r.join whole a) ≡ true
+      → r.is_behind told whole ≡ true → r.is_behind told (r.join whole a) ≡ true
   pub small_zero : r.small (pos 0) (pos 0) ≡ Some (pos 0)
   pub small_within : (told whole b : ℤ) → r.is_value told ≡ true → r.is_value whole ≡ true → r.is_behind told whole ≡ true
-    → r.small told whole ≡ Some b → (negsuc 126 ≤ℤ b) × (b ≤ℤ pos 127)
+      → r.small told whole ≡ Some b → (negsuc 126 ≤ℤ b) × (b ≤ℤ pos 127)

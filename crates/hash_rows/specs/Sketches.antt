@@ -1,5 +1,6 @@
 -- The three sketches: what a cell joins, what a packet adds to it, and what the cells say of a key.
--- Count-Min: Cormode, Muthukrishnan (2005). Count Sketch: Charikar, Chen, Farach-Colton (2002). LogLog: Durand, Flajolet (2003).
+-- Count-Min: Cormode, Muthukrishnan (2005). Count Sketch: Charikar, Chen, Farach-Colton (2002). LogLog: Durand, Flajolet (2003), with the
+-- estimates of HyperLogLog: Flajolet, Fusy, Gandouet, Meunier (2007).
 use Rattle.std.specs.Prelude.{ℕ, ◌+◌, ◌-◌, ◌*◌, ◌/◌, ◌^◌, ◌==◌, ◌&&◌, ℤ, pos, negsuc, ◌-ℤ◌, Bool, List, [], ◌∷◌, length, map, fold, sum, sum_by, count_by, min, nat_lt, nat_le, if◌then◌else◌, slice_index_or, unsigned_abs, Option, Some, None, int_lt, int_le}
 use Rattle.std.specs.Int.{int_max, int_min, int_wrapping_add, int_wrapping_sub, int_wrapping_neg, trailing_zeros, w64}
 use Rattle.std.specs.List.{range_with_len}
@@ -39,7 +40,7 @@ count_min_value shape packet row = pos packet.amount
 
 -- the number with the sign of a row: negative where the top bit of the row hash is 1
 abbrev pub signed_in_row : FlowKey → ℕ → ℤ → ℤ
-signed_in_row key row a = if nat_lt (row_hash_of key row) 9223372036854775808 then a else int_wrapping_neg w64 a
+signed_in_row key row a = if nat_lt (row_hash_of key row) (2 ^ 63) then a else int_wrapping_neg w64 a
 
 abbrev pub count_sketch_value : Shape → Packet → ℕ → ℤ
 count_sketch_value shape packet row = signed_in_row packet.key row (pos packet.amount)
@@ -116,7 +117,7 @@ zero_registers cells = count_by (λ rank. int_eq rank (pos 0)) cells
 
 -- E = (7213 * m ^ 3 * 2 ^ 32) div ((10000 * m + 10790) * Z)
 unfoldable pub raw_estimate : ℕ → ℕ → ℕ
-raw_estimate m z = (7213 * (m * m * m) * 4294967296) / ((10000 * m + 10790) * z)
+raw_estimate m z = (7213 * (m * m * m) * 2 ^ 32) / ((10000 * m + 10790) * z)
 
 -- (the sum over i from V + 1 to m of (m * 65536 div i)) div 65536
 unfoldable pub linear_count : ℕ → ℕ → ℕ

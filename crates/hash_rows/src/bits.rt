@@ -32,6 +32,12 @@ impl Bits {
         })
     }
 
+    pub fn len(&self) -> u32
+        ensures { result ≡ length self.now }
+    {
+        self.marks.len()
+    }
+
     pub fn get(&self, place: u32) -> bool
         requires { place < length self.now }
         ensures { result ≡ slice_index_or self.now place false }

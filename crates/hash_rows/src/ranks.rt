@@ -35,10 +35,7 @@ impl RankHeld {
         ensures { (told whole : ℤ) → StandsForRanks self told whole → (result.0 ≡ rank_distance told whole) × (result.1 ≡ rank_gap told whole) }
     {
         if self.told < self.whole {
-            (
-                u64::from(self.whole - self.told),
-                i64::from(self.whole),
-            )
+            (u64::from(self.whole - self.told), i64::from(self.whole))
         } else {
             (0, 0)
         }

@@ -97,7 +97,7 @@ one_more_counted : (count m n : ℕ) → count ≡ min m 18446744073709551615 �
 one_more_counted count m n h e = omega arith
 
 -- where all distinct keys have room, none is missing
-none_missing_live : (n : ℕ) (qs : List FlowKey) → length (distinct_keys qs) ≤ n → missing (take n (distinct_keys qs)) qs ≡ []
+pub none_missing_live : (n : ℕ) (qs : List FlowKey) → length (distinct_keys qs) ≤ n → missing (take n (distinct_keys qs)) qs ≡ []
 none_missing_live n qs fits = subst (λ live. missing live qs ≡ []) (sym (take_all n (distinct_keys qs) fits)) (none_missing (distinct_keys qs) qs [] (λ k h. h))
 
 -- a fresh table

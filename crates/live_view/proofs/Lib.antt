@@ -1,2 +1,13 @@
 mod Lists
+mod Layouts
 mod Shown
+mod Kept
+mod Live
+mod Copied
+mod Prefixes
+mod Folds
+mod Adding
+mod Turns
+mod Desks
+mod Turning
+mod Settled

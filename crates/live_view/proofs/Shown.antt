@@ -52,10 +52,10 @@ pub cells_more : (r : Rules) (shape : Shape) (messages : List Push) (m : Push) (
 unfolding told_cells
 cells_more r shape messages m cells is inside =
     let at : get_or cells m.cell (pos 0) ≡ told_of r m.cell messages =
-        ap (λ l. get_or l m.cell (pos 0)) is ∙ get_or-map-range_with_len (λ cell. told_of r cell messages) 0 (size_of shape) m.cell m.cell (pos 0) inside (omega arith) in
+    ap (λ l. get_or l m.cell (pos 0)) is ∙ get_or-map-range_with_len (λ cell. told_of r cell messages) 0 (size_of shape) m.cell m.cell (pos 0) inside (omega arith) in
     set_made (λ cell. told_of r cell messages) (λ cell. told_of r cell (messages ++ m ∷ [])) cells (size_of shape) m.cell _ (pos 0) is inside
-        (told_by r m.cell messages m true (same_self m.cell) ∙ ap (λ v. r.join v m.amount) (sym at))
-        (λ k apart. told_by r k messages m false apart)
+    (told_by r m.cell messages m true (same_self m.cell) ∙ ap (λ v. r.join v m.amount) (sym at))
+    (λ k apart. told_by r k messages m false apart)
 
 -- the front
 
@@ -72,13 +72,13 @@ pub front_more : (workers : ℕ) (messages : List Push) (m : Push) (front : List
 unfolding front_of
 front_more workers messages m front is inside short =
     let at : get_or front m.worker 0 ≡ length (messages_of m.worker messages) =
-        ap (λ l. get_or l m.worker 0) is ∙ get_or-map-range_with_len (λ w. length (messages_of w messages)) 0 workers m.worker m.worker 0 inside (omega arith) in
+    ap (λ l. get_or l m.worker 0) is ∙ get_or-map-range_with_len (λ w. length (messages_of w messages)) 0 workers m.worker m.worker 0 inside (omega arith) in
     let few = filter_length (λ (x : Push). x.worker == m.worker) messages in
     let more : length (messages_of m.worker (messages ++ m ∷ [])) ≡ length (messages_of m.worker messages) + 1 =
-        ap length (filter_push (λ (x : Push). x.worker == m.worker) messages m true (same_self m.worker)) ∙ length-append (messages_of m.worker messages) (m ∷ []) in
+    ap length (filter_push (λ (x : Push). x.worker == m.worker) messages m true (same_self m.worker)) ∙ length-append (messages_of m.worker messages) (m ∷ []) in
     set_made (λ w. length (messages_of w messages)) (λ w. length (messages_of w (messages ++ m ∷ []))) front workers m.worker _ 0 is inside
-        (omega (arith, more, at, few, short))
-        (λ k apart. ap length (filter_push (λ (x : Push). x.worker == k) messages m false apart))
+    (omega (arith, more, at, few, short))
+    (λ k apart. ap length (filter_push (λ (x : Push). x.worker == k) messages m false apart))
 
 -- the last updates
 
@@ -106,8 +106,8 @@ pub upto_more : (workers : ℕ) (messages : List Push) (m : Push) (upto : List �
 unfolding uptos_of
 upto_more workers messages m upto is inside =
     set_made (last_of messages) (last_of (messages ++ m ∷ [])) upto workers m.worker _ 0 is inside
-        (ap (λ (l : List Push). upto_of l (length l)) (filter_push (λ (x : Push). x.worker == m.worker) messages m true (same_self m.worker)) ∙ last_update (messages_of m.worker messages) m)
-        (λ k apart. ap (λ (l : List Push). upto_of l (length l)) (filter_push (λ (x : Push). x.worker == k) messages m false apart))
+    (ap (λ (l : List Push). upto_of l (length l)) (filter_push (λ (x : Push). x.worker == m.worker) messages m true (same_self m.worker)) ∙ last_update (messages_of m.worker messages) m)
+    (λ k apart. ap (λ (l : List Push). upto_of l (length l)) (filter_push (λ (x : Push). x.worker == k) messages m false apart))
 
 -- the notes
 

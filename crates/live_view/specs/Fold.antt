@@ -1,7 +1,8 @@
 -- What a state is, and what a message makes of it.
-use Rattle.std.specs.Prelude.{◌≡◌, ℕ, pos, ◌+◌, ◌&&◌, Bool, true, min, List, length, replicate, nat_lt, fold, All, slice_set, slice_index_or, if◌then◌else◌}
+use Rattle.std.specs.Prelude.{◌≡◌, ℕ, ℤ, pos, ◌+◌, ◌&&◌, Bool, true, min, List, length, replicate, nat_lt, fold, All, slice_set, slice_index_or, if◌then◌else◌}
 use Rattle.packet_key.specs.declared.key.FlowKey.{FlowKey}
 use Rattle.hash_rows.specs.declared.shape.Push.{Push}
+use Rattle.hash_rows.specs.declared.shape.Shape.{Shape}
 use Rattle.hash_rows.specs.Rules.{Rules}
 use Rattle.hash_rows.specs.Shapes.{size_of}
 use Rattle.hash_rows.specs.Tables.{Figures, put_in}
@@ -29,14 +30,14 @@ one_more n = min (n + 1) most
 abbrev pub layout_of : Fold → Layout
 layout_of s = record { shape = s.table.shape; workers = length s.front; heavy = s.heavy.limit; least = s.heavy.least }
 
--- the table of zeros
-abbrev pub zero_table : Layout → Figures
-zero_table l = record { shape = l.shape; cells = replicate (size_of l.shape) (pos 0) }
+-- the cells of a table of zeros
+abbrev pub zero_cells : Shape → List ℤ
+zero_cells shape = replicate (size_of shape) (pos 0)
 
 -- the state with no message
 abbrev pub fresh_state : Layout → Fold
 fresh_state l = record {
-  table = zero_table l;
+  table = record { shape = l.shape; cells = zero_cells l.shape };
   front = replicate l.workers 0;
   upto = replicate l.workers 0;
   folded = 0;
@@ -78,3 +79,8 @@ state_after r l messages = fold (absorbed r) (fresh_state l) messages
 -- each of them fits
 abbrev pub Fit : Rules → Layout → List Push → Type 0
 Fit r l messages = All (λ m. fits r l m ≡ true) messages
+
+-- the state is that after the messages, and each of them fits
+pub record IsFoldOf (r : Rules) (s : Fold) (messages : List Push) : Type 0 where
+  pub fit : Fit r (layout_of s) messages
+  pub sums : s ≡ state_after r (layout_of s) messages

@@ -1,12 +1,14 @@
-ghost use Rattle.std.specs.Prelude.{◌≡◌, ◌<◌, ◌≤◌, ℕ, length, IfOk, slice_index_or, slice_get, Some};
+ghost use Rattle.std.specs.Prelude.{◌≡◌, ◌<◌, ◌≤◌, length, IfOk, slice_index_or};
 ghost use Rattle.hash_rows.specs.Shapes.{IsShape};
-ghost use Rattle.live_view.specs.Fold.{absorbed, added, fits, fresh_state, front_raised, key_noted, layout_of};
+ghost use Rattle.live_view.specs.Fold.{absorbed, fits, fresh_state, layout_of};
+ghost use Rattle.live_view.specs.Tallies.{table_noted};
 
-use crate::Layout;
+use crate::copies::fill_table;
+use crate::published::Published;
+use crate::tally::Tally;
 use flow_base::NoMemory;
-use hash_rows::{Counts, Kind, Push, Shape, Table};
+use hash_rows::{Kind, Push, Shape, Table};
 use heavy_keys::Heavy;
-use listed::Listed;
 use packet_key::FlowKey;
 use std::alloc::Global;
 use std::marker::Model;
@@ -15,21 +17,15 @@ use std::marker::Model;
 #[derive(Drop)]
 pub struct State<K: Kind> {
     table: Table<K>,
-    front: Counts,
-    upto: Counts,
-    folded: u64,
-    heavy: Heavy,
+    tally: Tally,
 }
 
 impl<K: Kind> Model for State<K> {
-    ghost use Rattle.std.specs.Prelude.{◌≡◌, length};
     ghost use Rattle.live_view.specs.Fold.{Fold};
 
     ghost Value = { Fold };
 
-    ghost view = { λ s. record { table = s.table; front = s.front.items; upto = s.upto.items; folded = s.folded; heavy = s.heavy } };
-
-    ghost invariant = { λ s. length s.upto.items ≡ length s.front.items };
+    ghost view = { λ s. record { table = s.table; front = s.tally.front; upto = s.tally.upto; folded = s.tally.folded; heavy = s.tally.heavy } };
 }
 
 impl<K: Kind> State<K> {
@@ -47,10 +43,7 @@ impl<K: Kind> State<K> {
     {
         Ok(State {
             table: Table::new(alloc, shape)?,
-            front: Listed::filled(alloc, workers, 0)?,
-            upto: Listed::filled(alloc, workers, 0)?,
-            folded: 0,
-            heavy: Heavy::new(alloc, heavy, least)?,
+            tally: Tally::new(alloc, workers, heavy, least)?,
         })
     }
 
@@ -61,11 +54,8 @@ impl<K: Kind> State<K> {
     {
         if self.takes(message) {
             self.table.put(message.cell, message.amount);
-            raise(&mut self.front, message.worker);
-            self.upto
-                .set(message.worker, u64::from(message.update) + 1);
-            self.folded = self.folded.saturating_add(1);
-            note_key(&self.table, &mut self.heavy, &message.key);
+            self.tally.count(message.worker, message.update);
+            note_key(&self.table, &mut self.tally, &message.key);
         }
     }
 
@@ -74,9 +64,18 @@ impl<K: Kind> State<K> {
         ensures { result ≡ fits K.rules (layout_of self.now) message.now }
     {
         let shape = self.table.shape();
-        message.worker < self.front.len()
+        message.worker < self.tally.workers()
             && message.cell < shape.rows * shape.columns
             && K::is_value(message.amount)
+    }
+
+    // Makes a state with no message the one that readers take. It takes no memory.
+    pub(crate) fn copy_page(&mut self, page: &Published<K>)
+        requires { self.old ≡ fresh_state (layout_of page.now.figures) }
+        ensures { self.new ≡ page.now.figures }
+    {
+        fill_table(page.cells(), &mut self.table);
+        self.tally.copy_from(page.tally());
     }
 
     pub fn table(&self) -> &Table<K>
@@ -85,11 +84,19 @@ impl<K: Kind> State<K> {
         &self.table
     }
 
+    /// The table alone.
+    pub fn into_table(self) -> Table<K>
+        ensures { result ≡ self.table }
+    {
+        let State { table, tally: _ } = self;
+        table
+    }
+
     /// The number of workers.
     pub fn workers(&self) -> u32
         ensures { result ≡ length self.now.front }
     {
-        self.front.len()
+        self.tally.workers()
     }
 
     /// How many messages of the worker were folded.
@@ -97,7 +104,7 @@ impl<K: Kind> State<K> {
         requires { worker < length self.now.front }
         ensures { result ≡ slice_index_or self.now.front worker 0 }
     {
-        *self.front.get(worker)
+        self.tally.front()[worker as usize]
     }
 
     /// One more than the last folded update of the worker, 0 where there is none.
@@ -105,39 +112,29 @@ impl<K: Kind> State<K> {
         requires { worker < length self.now.front }
         ensures { result ≡ slice_index_or self.now.upto worker 0 }
     {
-        *self.upto.get(worker)
+        self.tally.upto()[worker as usize]
     }
 
     /// How many messages were folded.
     pub fn folded(&self) -> u64
         ensures { result ≡ self.now.folded }
     {
-        self.folded
+        self.tally.folded()
     }
 
     /// The heavy keys.
     pub fn heavy(&self) -> &Heavy
         ensures { result.now ≡ self.now.heavy }
     {
-        &self.heavy
+        self.tally.heavy()
     }
 }
 
-// Counts one message more of the worker.
-fn raise(front: &mut Counts, worker: u32)
-    requires { worker < length front.old.items }
-    ensures items { front.new.items ≡ front_raised front.old.items worker }
-    ensures room { front.new.room ≡ front.old.room }
-{
-    let more = front.get(worker).saturating_add(1);
-    front.set(worker, more);
-}
-
 // Notes the key with what the table says of it, where estimates depend on the key.
-fn note_key<K: Kind>(table: &Table<K>, heavy: &mut Heavy, key: &FlowKey)
-    ensures { heavy.new ≡ key_noted K.rules table.now heavy.old key.now }
+fn note_key<K: Kind>(table: &Table<K>, tally: &mut Tally, key: &FlowKey)
+    ensures { tally.new ≡ table_noted K.rules table.now tally.old key.now }
 {
     if K::KEYED {
-        heavy.note(*key, table.estimate(key));
+        tally.note(key, table.estimate(key));
     }
 }

@@ -59,7 +59,6 @@ impl Kind for LogLog {
         }
     }
 
-    #[tactic(auto, unfolding(hash_rows::specs::Sketches::rank_of))]
     fn value(shape: &Shape, packet: &Packet, _row: u32) -> i64 {
         rank(row_hash(&packet.key, 0), shape.columns)
     }

@@ -21,9 +21,9 @@ pub fn rank(hash: u64, columns: u32) -> i64
 #[tactic(auto, unfolding(hash_rows::specs::Sketches::register_sum))]
 fn sum_of_registers(cells: &[i64]) -> u64
     requires values { AreValues ranks cells.now }
-    requires few { length cells.now ≤ 524288 }
+    requires few { length cells.now ≤ 2 ^ 19 }
     ensures sum { result ≡ register_sum cells.now }
-    ensures most { result ≤ 2251799813685248 }
+    ensures most { result ≤ 2 ^ 51 }
     ensures least { length cells.now ≤ result }
 {
     let mut sum = 0;
@@ -38,7 +38,7 @@ fn weight(rank: i64) -> u64
     requires { is_rank rank ≡ true }
     ensures weight { result ≡ 2 ^ (32 - unsigned_abs rank) }
     ensures some { 1 ≤ result }
-    ensures most { result ≤ 4294967296 }
+    ensures most { result ≤ 2 ^ 32 }
 {
     1 << (32 - rank.unsigned_abs())
 }
@@ -58,14 +58,14 @@ fn count_zeros(cells: &[i64]) -> u64
     zeros
 }
 
-// The estimate from the sum over all registers (Durand, Flajolet: LogLog counting of large
-// cardinalities, 2003).
+// The estimate from the sum over all registers: the harmonic mean, scaled by the constant
+// 0.7213 / (1 + 1.079 / m) (Flajolet, Fusy, Gandouet, Meunier: HyperLogLog, 2007).
 #[tactic(auto, unfolding(hash_rows::specs::Sketches::raw_estimate))]
 fn estimate_raw(registers: u32, sum: u64) -> u64
     requires some { 1 ≤ registers }
     requires registers { registers ≤ 65536 }
     requires least { registers ≤ sum }
-    requires most { sum ≤ 2251799813685248 }
+    requires most { sum ≤ 2 ^ 51 }
     ensures raw { result ≡ raw_estimate registers sum }
     ensures fits { result ≤ 2 ^ 60 }
 {
@@ -74,11 +74,12 @@ fn estimate_raw(registers: u32, sum: u64) -> u64
     (scaled / ((10000 * m + 10790) * u128::from(sum))) as u64
 }
 
-// The estimate from the number of registers that are 0, where many are.
+// The estimate from the number of registers that are 0, where many are: linear counting (Whang,
+// Vander-Zanden, Taylor, 1990), with a sum of 1 / i for the logarithm.
 #[tactic(auto, unfolding(hash_rows::specs::Sketches::linear_count))]
 fn count_linear(registers: u32, zeros: u64) -> u64
     requires registers { registers ≤ 65536 }
-    requires zeros { zeros ≤ 524288 }
+    requires zeros { zeros ≤ 2 ^ 19 }
     ensures linear { result ≡ linear_count registers zeros }
     ensures fits { result ≤ 2 ^ 60 }
 {
@@ -97,7 +98,7 @@ pub fn estimate_distinct(registers: u32, cells: &[i64]) -> i64
     requires registers { registers ≤ 65536 }
     requires values { AreValues ranks cells.now }
     requires least { registers ≤ length cells.now }
-    requires few { length cells.now ≤ 524288 }
+    requires few { length cells.now ≤ 2 ^ 19 }
     ensures { result ≡ pos (distinct_of registers cells.now) }
 {
     let raw = estimate_raw(registers, sum_of_registers(cells));
@@ -106,5 +107,31 @@ pub fn estimate_distinct(registers: u32, cells: &[i64]) -> i64
         count_linear(registers, zeros) as i64
     } else {
         raw as i64
+    }
+}
+
+#[cfg(test)]
+mod tests {
+    use super::*;
+
+    #[test]
+    fn ranks_by_trailing_zeros(rt: HostRuntime) {
+        for (hash, columns, wanted) in [
+            (0, 128, 32),
+            (127, 128, 32),
+            (128, 128, 1),
+            (513, 128, 3),
+            (1 << 63, 128, 32),
+            (6, 1, 2),
+        ] {
+            assert_eq!(rt; rank(hash, columns), wanted);
+        }
+    }
+
+    // By the formulas in decimal numbers: 732.4, and 128 times the sum of 1 / i for i from 65 to 128.
+    #[test]
+    fn estimates_by_registers(rt: HostRuntime) {
+        assert_eq!(rt; estimate_raw(128, 128 << 29), 732);
+        assert_eq!(rt; count_linear(128, 64), 88);
     }
 }

@@ -1,7 +1,7 @@
 -- The bytes that the text of a key is made of.
 use Rattle.std.specs.Prelude.{◌≡◌, ◌≢◌, ℕ, Bool, true, ◌==◌, ◌&&◌, ◌||◌, nat_le, List, All}
 
--- a digit, a letter from `a` to `f`, or one of `.`, `:`, `[` and `]`
+-- `0` to `9` and `:`, which follows them in ASCII, `a` to `f`, `.`, `[` or `]`
 abbrev pub is_end_byte : ℕ → Bool
 is_end_byte b = (nat_le 48 b && nat_le b 58) || (nat_le 97 b && nat_le b 102) || (b == 46) || (b == 91) || (b == 93)
 

@@ -152,7 +152,7 @@ fn read_announced(ethertype: u16, frame: &[u8], p: usize) -> Result<FlowKey, Ski
     }
 }
 
-fn tags(ethertype: u16) -> bool
+fn is_tag(ethertype: u16) -> bool
     ensures { result ≡ is_tag ethertype }
 {
     ethertype == VLAN_TAG || ethertype == SERVICE_TAG
@@ -172,7 +172,7 @@ pub fn read_frame(frame: &[u8]) -> Result<FlowKey, Skip>
     let mut at = 12;
     let mut tags_left: u8 = 2;
     let mut ethertype = u16_at(frame, at);
-    while tags(ethertype) {
+    while is_tag(ethertype) {
         if tags_left == 0 {
             return Err(Skip::ManyTags);
         }

@@ -145,6 +145,8 @@ fn texts_of_no_key(rt: HostRuntime) {
 
 #[test]
 fn key_bytes_and_order(rt: HostRuntime) {
+    one_text();
+    key_letters();
     let mut bytes = [0; 37];
     if let (Ok(four), Ok(six)) = (read_frame(&F1), read_frame(&F6)) {
         assert_eq!(rt; key_bytes(&four, &mut bytes), 13);

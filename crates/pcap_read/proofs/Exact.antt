@@ -5,7 +5,7 @@ use Rattle.std.proofs.lemmas.List.{take-append-drop, take_all, length-map, lengt
 use Rattle.pcap_read.specs.Records.{Record, Framed, frame_of, text, IsRecord}
 use Rattle.pcap_read.specs.Capture.{IsLaidOut, RefusesNext}
 use Rattle.pcap_read.specs.Place.{Place, Stands, InHeader, InBody}
-use Rattle.pcap_read.specs.Takes.{Takes, TakesWhole}
+use Rattle.pcap_read.specs.Takes.{Takes, TakesWhole, GoesOn}
 use Rattle.pcap_read.proofs.Steps.{header_stays, drop_header}
 use Rattle.pcap_read.proofs.Once.{Stops, cut_within, cut_refused, short_fine, capture_fine, one_refusal}
 use Rattle.pcap_read.specs.declared.bad.Order.{Order}
@@ -20,6 +20,14 @@ stood_by place (Some order) b fs gs bad at refused =
 -- where a reader stands nothing was refused
 pub stood_fine : (place : Place) (b : List ℕ) (fs gs : List Framed) (bad : Bad) → Stands place b fs → RefusesNext place.limit b gs bad → ⊥
 stood_fine place b fs gs bad stands refused = stood_by place place.order b fs gs bad stands.at refused
+
+count_by : (place : Place) (o : Option Order) (b : List ℕ) (fs : List Framed) → MatchOption o (InHeader place b fs) (InBody place b fs) → place.count ≡ length fs
+count_by place None b fs at = at.count ∙ ap length (sym at.none)
+count_by place (Some order) b fs at = at.count ∙ sym (length-map at.records (frame_of order)) ∙ ap length (sym at.frames_are)
+
+-- a reader counts its frames
+pub stood_count : (place : Place) (b : List ℕ) (fs : List Framed) → Stands place b fs → place.count ≡ length fs
+stood_count place b fs stands = count_by place place.order b fs stands.at
 
 -- a record that is whole comes before the refusals behind it
 whole_first : (limit : ℕ) (order : Order) (a z rest : List ℕ) (rs : List Record) (fs : List Framed) (next : Framed) (bad : Bad) → IsLaidOut order limit a rs rest
@@ -62,10 +70,10 @@ ok_fine new piece b fs bad used false stands all refused =
     (subst (λ (t : List ℕ). RefusesNext new.limit (b ++ t) fs bad) (sym whole) refused)
 
 -- a refusal that stands in the piece before the next record's end is answered
-pub refused_exactly : (old new : Place) (piece : List ℕ) (result : Result Taken Bad) → Takes old new piece result → new.limit ≡ old.limit
-    → IfOk result (λ taken. taken.whole ≡ false → taken.used ≡ length piece)
+pub refused_exactly : (old from new : Place) (piece : List ℕ) (result : Result Taken Bad) → Takes old new piece result → new.limit ≡ old.limit
+    → IfOk result (λ taken. GoesOn from new piece taken)
     → (b : List ℕ) (fs : List Framed) (bad : Bad) → Stands old b fs → RefusesNext old.limit (b ++ piece) fs bad → result ≡ Err bad
-refused_exactly old new piece (Ok taken) takes limit all b fs bad stands refused =
-    absurd (ok_fine new piece b fs bad taken.used taken.whole (takes b fs stands) all (subst (λ (n : ℕ). RefusesNext n (b ++ piece) fs bad) (sym limit) refused))
-refused_exactly old new piece (Err other) takes limit all b fs bad stands refused =
+refused_exactly old from new piece (Ok taken) takes limit on b fs bad stands refused =
+    absurd (ok_fine new piece b fs bad taken.used taken.whole (takes b fs stands) on.all (subst (λ (n : ℕ). RefusesNext n (b ++ piece) fs bad) (sym limit) refused))
+refused_exactly old from new piece (Err other) takes limit on b fs bad stands refused =
     ap Err (one_refusal old.limit (b ++ piece) fs fs other bad (takes b fs stands) refused).1

@@ -1,18 +1,16 @@
 -- What readers are answered, one event after another.
-use Rattle.std.proofs.Common.{◌≡◌, ◌<◌, ◌≤◌, ℕ, zero, suc, ◌+◌, ◌-◌, ◌==◌, ℤ, List, [], ◌∷◌, ◌++◌, length, replicate, Bool, true, false, nat_lt, refl, sym, ap, ◌∙◌, subst, arith, append_assoc}
-use Rattle.std.specs.Prelude.{fold, if◌then◌else◌, min, count_by, map, take, cond}
-use Rattle.std.specs.List.{enumerate_from, range_with_len}
-use Rattle.std.proofs.lemmas.List.{append-nil, map-append}
+use Rattle.std.proofs.Common.{◌≡◌, ℕ, zero, suc, ◌+◌, ◌==◌, List, [], ◌∷◌, ◌++◌, length, replicate, true, false, refl, sym, ap, ◌∙◌, arith, append_assoc}
+use Rattle.std.specs.Prelude.{fold, if◌then◌else◌, count_by, cond}
+use Rattle.std.specs.List.{range_with_len}
+use Rattle.std.proofs.lemmas.List.{append-nil}
 use Rattle.std.proofs.lemmas.List.Sums.{sum_by-cons}
-use Rattle.packet_key.specs.declared.key.FlowKey.{FlowKey}
 use Rattle.hash_rows.specs.declared.options.Options.{Options}
-use Rattle.hash_rows.specs.declared.shape.Shape.{Shape}
 use Rattle.push_history.specs.declared.event.Event.{Event}
 use Rattle.push_history.specs.declared.event.Event.TheVariants.{Update, Take, Publish, Ask}
-use Rattle.push_history.specs.LagRun.{Terms, State, Worker, lag_step, lag_run, reply_to, start}
-use Rattle.push_history.specs.Answers.{AnswerParts, is_ask, asked_in, answer_in, answers_to, shown_front}
-use Rattle.push_history.specs.Rounds.{is_waits, count_times, count_in_round, fold_in_round, ask_in_round, ask_at_end}
-use Rattle.push_history.proofs.RoundSteps.{SameRun, same_then, ask_run, before_asks}
+use Rattle.push_history.specs.LagRun.{Terms, State, lag_step, lag_run, reply_to, start}
+use Rattle.push_history.specs.Answers.{is_ask, asked_in}
+use Rattle.push_history.specs.Rounds.{is_waits, count_times, count_in_round, fold_in_round}
+use Rattle.push_history.proofs.RoundSteps.{before_asks}
 
 -- the state after some events, from any state on
 abbrev run_from : Terms → State → List Event → State
@@ -25,7 +23,7 @@ asked_more t q s (x ∷ es) e =
     let tail = if is_ask q e then run_from t (lag_step t s x).0 es ∷ [] else [] in
     let rest = asked_more t q (lag_step t s x).0 es e in
     rw rest (elim (is_ask q x) as (λ b. (if b then s ∷ (asked_in t q (lag_step t s x).0 es ++ tail) else asked_in t q (lag_step t s x).0 es ++ tail)
-        ≡ (if b then s ∷ asked_in t q (lag_step t s x).0 es else asked_in t q (lag_step t s x).0 es) ++ tail) [ true ↦ refl | false ↦ refl ])
+    ≡ (if b then s ∷ asked_in t q (lag_step t s x).0 es else asked_in t q (lag_step t s x).0 es) ++ tail) [ true ↦ refl | false ↦ refl ])
 
 -- the states in which the reader asked
 abbrev pub asked : Terms → ℕ → ℕ → List Event → List State
@@ -74,7 +72,7 @@ asked_count_from t q s [] = refl
 asked_count_from t q s (e ∷ es) =
     let rest = asked_count_from t q (lag_step t s e).0 es in
     rw (sum_by-cons (λ x. cond (is_ask q x) 1 0) e es, ← rest) (elim (is_ask q e) as (λ b. length (if b then s ∷ asked_in t q (lag_step t s e).0 es else asked_in t q (lag_step t s e).0 es)
-        ≡ cond b 1 0 + length (asked_in t q (lag_step t s e).0 es)) [ true ↦ omega arith | false ↦ omega arith ])
+    ≡ cond b 1 0 + length (asked_in t q (lag_step t s e).0 es)) [ true ↦ omega arith | false ↦ omega arith ])
 
 pub asked_count : (t : Terms) (readers q : ℕ) (events : List Event) → count_by (is_ask q) events ≡ length (asked t readers q events)
 asked_count t readers q events = sym (asked_count_from t q (start (length t.updates) readers) events)

@@ -1,22 +1,20 @@
 -- The answers to a reader, round by round.
-use Rattle.std.proofs.Common.{◌≡◌, ◌<◌, ◌≤◌, ℕ, zero, suc, ◌+◌, ◌-◌, ◌==◌, ℤ, List, [], ◌∷◌, ◌++◌, length, replicate, Bool, true, false, nat_lt, refl, sym, ap, ◌∙◌, subst, arith, append_assoc, ◌⊎◌, inl, inr}
-use Rattle.std.specs.Prelude.{fold, if◌then◌else◌, min, count_by, map, take}
-use Rattle.std.specs.Fn.{iterate}
+use Rattle.std.proofs.Common.{◌≡◌, ℕ, zero, suc, ◌+◌, ◌==◌, List, [], ◌∷◌, ◌++◌, length, true, false, nat_lt, refl, sym, ap, ◌∙◌, arith}
+use Rattle.std.specs.Prelude.{if◌then◌else◌, count_by, map}
 use Rattle.std.specs.List.{enumerate_from, range_with_len}
 use Rattle.std.proofs.lemmas.List.{append-nil, map-append, length-map}
-use Rattle.std.proofs.lemmas.List.FromFn.{length-map-range_with_len, length-enumerate_from}
+use Rattle.std.proofs.lemmas.List.FromFn.{length-enumerate_from}
 use Rattle.packet_key.specs.declared.key.FlowKey.{FlowKey}
 use Rattle.hash_rows.specs.declared.options.Options.{Options}
 use Rattle.hash_rows.specs.declared.shape.Shape.{Shape}
 use Rattle.hash_rows.specs.declared.shape.Push.{Push}
 use Rattle.push_history.specs.declared.event.Event.{Event}
-use Rattle.push_history.specs.declared.event.Event.TheVariants.{Update, Take, Publish, Ask}
-use Rattle.push_history.specs.LagRun.{Terms, State, Worker, lag_run, start}
-use Rattle.push_history.specs.Answers.{AnswerParts, is_ask, answer_in, answers_to, shown_front}
-use Rattle.push_history.specs.Rounds.{ask_in_round, ask_at_end, with_round, events_of_rounds}
-use Rattle.push_history.specs.RoundStates.{round_state}
-use Rattle.push_history.proofs.RoundSteps.{SameRun, same_then, same_run, ask_run, asks_run, before_asks}
-use Rattle.push_history.proofs.AskLists.{asked, own_ask, quiet_event, quiet_before, asked_count}
+use Rattle.push_history.specs.declared.event.Event.TheVariants.{Ask}
+use Rattle.push_history.specs.LagRun.{Terms, State, Worker, lag_run}
+use Rattle.push_history.specs.Answers.{AnswerParts, is_ask, answer_in, answers_to}
+use Rattle.push_history.specs.Rounds.{ask_in_round}
+use Rattle.push_history.proofs.RoundSteps.{SameRun}
+use Rattle.push_history.proofs.AskLists.{asked, own_ask, quiet_event, asked_count}
 
 -- states that differ in what readers have seen alone answer alike
 pub same_answer : (t : Terms) (shape : Shape) (keys : List FlowKey) (q k : ℕ) (a b : State) → SameRun a b → answer_in t shape keys q k b ≡ answer_in t shape keys q k a
@@ -79,7 +77,7 @@ unfolding ask_in_round
 its_ask t o shape keys q events n len =
     let all = answers_to t shape keys o.readers events q in
     let more : answers_to t shape keys o.readers (events ++ Ask q ∷ []) q ≡ all ++ answer_in t shape keys q n (lag_run t o.readers events) ∷ [] =
-        answers_more t shape keys o.readers q events (events ++ Ask q ∷ []) (lag_run t o.readers events) (own_ask t o.readers q events)
-        ∙ ap (λ m. all ++ answer_in t shape keys q m (lag_run t o.readers events) ∷ []) len in
+    answers_more t shape keys o.readers q events (events ++ Ask q ∷ []) (lag_run t o.readers events) (own_ask t o.readers q events)
+    ∙ ap (λ m. all ++ answer_in t shape keys q m (lag_run t o.readers events) ∷ []) len in
     rw (sym (answers_count t shape keys o.readers q events) ∙ len) (elim (nat_lt n o.asks) as (λ b. answers_to t shape keys o.readers (if b then events ++ Ask q ∷ [] else events) q
-        ≡ all ++ (if b then answer_in t shape keys q n (lag_run t o.readers events) ∷ [] else [])) [ true ↦ more | false ↦ sym (append-nil all) ])
+    ≡ all ++ (if b then answer_in t shape keys q n (lag_run t o.readers events) ∷ [] else [])) [ true ↦ more | false ↦ sym (append-nil all) ])

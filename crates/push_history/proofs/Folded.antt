@@ -71,18 +71,25 @@ firsts_folded (s ∷ ms) folded first (suc n) same each =
     (λ i sent is. let there : first + 1 + i ≡ first + suc i = omega arith in
     subst (λ (w : ℕ). messages_of w folded ≡ take (length (messages_of w folded)) sent) (sym there) (each (suc i) sent is)))
 
-pub fold_shown : (r : Rules) → AreLaws r → (workers : ℕ) (messages : List (List Push)) (folded : List Push) → length messages ≡ workers → All (λ m. m.worker < workers) folded
-    → All (λ m. r.is_value m.amount ≡ true) folded
-    → ((w : ℕ) (sent : List Push) → slice_get messages w ≡ Some sent → messages_of w folded ≡ take (length (messages_of w folded)) sent)
-    → (cell : ℕ) → shown_of r messages (front_of workers folded) cell ≡ told_of r cell folded
-unfolding shown_of front_of told_of
-fold_shown r laws workers messages folded same within are each cell =
+-- what the messages of all workers tell is what all messages tell
+pub told_by_workers : (r : Rules) → AreLaws r → (workers : ℕ) (folded : List Push) → All (λ m. m.worker < workers) folded → All (λ m. r.is_value m.amount ≡ true) folded
+    → (cell : ℕ) → told_of r cell (flat_map (λ w. messages_of w folded) (range_with_len 0 workers)) ≡ told_of r cell folded
+unfolding told_of
+told_by_workers r laws workers folded within are cell =
     let parts : ℕ → List ℤ = λ w. amounts_for cell (messages_of w folded) in
     let part_values : (w : ℕ) → AreValues r (parts w) = λ w. many_values r cell (messages_of w folded) (All-filter (λ m. m.worker == w) (λ m. r.is_value m.amount ≡ true) folded are) in
-    ap (λ t. joined_of r (amounts_for cell t)) (firsts_folded messages folded 0 workers same
-    (λ i sent is. let there : 0 + i ≡ i = omega arith in subst (λ (w : ℕ). messages_of w folded ≡ take (length (messages_of w folded)) sent) (sym there) (each i sent is)))
-    ∙ ap (joined_of r) (amounts_flat cell (λ w. messages_of w folded) (range_with_len 0 workers))
+    ap (joined_of r) (amounts_flat cell (λ w. messages_of w folded) (range_with_len 0 workers))
     ∙ joined_flat r laws parts part_values (range_with_len 0 workers)
     ∙ (λ j. joined_of r (map (λ w. joined_of r (amounts_are cell (messages_of w folded) j)) (range_with_len 0 workers)))
     ∙ joined_parts r laws (amount_at cell) (λ m. m.worker) workers folded (λ k d lt. amount_values r cell (get_or folded k d) (are k d lt)) within
     ∙ ap (joined_of r) (sym (amounts_are cell folded))
+
+pub fold_shown : (r : Rules) → AreLaws r → (workers : ℕ) (messages : List (List Push)) (folded : List Push) → length messages ≡ workers → All (λ m. m.worker < workers) folded
+    → All (λ m. r.is_value m.amount ≡ true) folded
+    → ((w : ℕ) (sent : List Push) → slice_get messages w ≡ Some sent → messages_of w folded ≡ take (length (messages_of w folded)) sent)
+    → (cell : ℕ) → shown_of r messages (front_of workers folded) cell ≡ told_of r cell folded
+unfolding shown_of front_of
+fold_shown r laws workers messages folded same within are each cell =
+    ap (told_of r cell) (firsts_folded messages folded 0 workers same
+    (λ i sent is. let there : 0 + i ≡ i = omega arith in subst (λ (w : ℕ). messages_of w folded ≡ take (length (messages_of w folded)) sent) (sym there) (each i sent is)))
+    ∙ told_by_workers r laws workers folded within are cell

@@ -19,7 +19,7 @@ use Rattle.push_history.proofs.Lists.{filter_kept, filter_push_no, increasing_pu
 no_update : Update
 no_update = record { packet = 0; key = zero_key; cell = 0; value = pos 0 }
 
-update_before : (U : List Update) (u : Update) (k : ℕ) → k < length U → update_at (U ++ u ∷ []) k ≡ update_at U k
+pub update_before : (U : List Update) (u : Update) (k : ℕ) → k < length U → update_at (U ++ u ∷ []) k ≡ update_at U k
 update_before U u k lt = get_or_append_left U (u ∷ []) (record { packet = 0; key = zero_key; cell = 0; value = pos 0 }) k lt
 
 pub update_last : (U : List Update) (u : Update) → update_at (U ++ u ∷ []) (length U) ≡ u
@@ -135,7 +135,7 @@ pushes_refused r T U u S F h far =
     }
 
 -- a message of a later update isn't before
-before_later : (S : List Push) (m : Push) (k : ℕ) → k ≤ m.update → messages_before k (S ++ m ∷ []) ≡ messages_before k S
+pub before_later : (S : List Push) (m : Push) (k : ℕ) → k ≤ m.update → messages_before k (S ++ m ∷ []) ≡ messages_before k S
 before_later S m k le = filter_push_no (λ x. nat_lt x.update k) S m (grind arith)
 
 told_later : (r : Rules) (S : List Push) (m : Push) (k c : ℕ) → k ≤ m.update → told r (S ++ m ∷ []) k c ≡ told r S k c
@@ -212,3 +212,15 @@ pushes_sent r T U u S F m h far n cell amount =
       ];
       apart = λ k sent. apart_sent r T U S F m h n k (m.update == k) refl sent;
     }
+
+-- no update, no message
+pub pushes_none : (r : Rules) (T : ℕ) → ArePushes r T [] [] []
+pushes_none r T = record {
+  rising = λ k lt. absurd (omega (arith, lt));
+  amounts = λ k d lt. absurd (omega (arith, lt));
+  refused_rising = λ k lt. absurd (omega (arith, lt));
+  refused_within = λ k d lt. absurd (omega (arith, lt));
+  reached = λ k lt is. absurd (omega (arith, lt));
+  below = λ k lt is. absurd (omega (arith, lt));
+  apart = λ k sent. refl;
+}

@@ -5,6 +5,10 @@ pub mod Telling
 pub mod Parts
 pub mod Sharing
 pub mod Folded
+pub mod Lawfuls
+pub mod RunLaws
+pub mod Conserved
+pub mod Notes
 pub mod Runs
 pub mod RoundRuns
 pub mod RoundSteps

@@ -1,5 +1,5 @@
 -- What readers are answered in rounds: the k-th ask sees the state after round k + 1, or that after the last round.
-use Rattle.std.proofs.Common.{◌≡◌, ◌<◌, ◌≤◌, ℕ, zero, suc, ◌+◌, ◌-◌, ◌==◌, ℤ, List, [], ◌∷◌, ◌++◌, length, replicate, Bool, true, false, nat_lt, refl, sym, ap, ◌∙◌, subst, arith, append_assoc, zero-add, ◌⊎◌, inl, inr}
+use Rattle.std.proofs.Common.{◌≡◌, ◌<◌, ◌≤◌, ℕ, zero, suc, ◌+◌, ◌-◌, ◌==◌, List, [], ◌∷◌, ◌++◌, length, replicate, true, false, nat_lt, refl, sym, ap, ◌∙◌, subst, arith, append_assoc, zero-add, ◌⊎◌, inl, inr}
 use Rattle.std.specs.Prelude.{fold, if◌then◌else◌, min, count_by, map}
 use Rattle.std.specs.Fn.{iterate}
 use Rattle.std.specs.List.{range_with_len}
@@ -17,7 +17,7 @@ use Rattle.push_history.specs.Answers.{AnswerParts, is_ask, answer_in, answers_t
 use Rattle.push_history.specs.Rounds.{ask_in_round, ask_at_end, with_round, events_of_rounds}
 use Rattle.push_history.specs.RoundStates.{round_state}
 use Rattle.push_history.proofs.RoundSteps.{SameRun, same_then, same_run, ask_run, asks_run, before_asks, ask_in_round_run}
-use Rattle.push_history.proofs.AskLists.{asked, own_ask, quiet_event, quiet_before}
+use Rattle.push_history.proofs.AskLists.{own_ask, quiet_event, quiet_before}
 use Rattle.push_history.proofs.AskParts.{same_answer, answers_more, answers_same, answers_count, other_ask, its_ask, range_more}
 
 module _ (t : Terms) (o : Options) (shape : Shape) (keys : List FlowKey) (q : ℕ) where
@@ -44,14 +44,15 @@ module _ (t : Terms) (o : Options) (shape : Shape) (keys : List FlowKey) (q : �
       → answers (fold (ask_in_round o) events (range_with_len a k)) ≡ answers events ++ new n (lag_run t o.readers events)
   asks_hit a zero n events low high len = absurd (omega (arith, low, high))
   asks_hit a (suc k) n events low high len = elim (eq-or-lt_of_le low) [
-      inl e ↦ asks_skip (a + 1) k (ask_in_round o events a) (inl (omega (arith, e)))
-          ∙ subst (λ p. answers (ask_in_round o events p) ≡ answers events ++ new n (lag_run t o.readers events)) (sym e) (its_ask t o shape keys q events n len)
-      | inr lt ↦
-          let apart : (a == q) ≡ false = grind (arith, lt) in
-          let same = other_ask t o shape keys q a events apart in
-          asks_hit (a + 1) k n (ask_in_round o events a) (omega (arith, lt)) (omega (arith, high)) (ap length same ∙ len)
-          ∙ ap (λ l. l ++ new n (lag_run t o.readers (ask_in_round o events a))) same
-          ∙ ap (λ x. answers events ++ (if nat_lt n o.asks then x ∷ [] else [])) (same_answer t shape keys q n _ _ (ask_in_round_run t o events a)) ]
+    | inl e ↦ asks_skip (a + 1) k (ask_in_round o events a) (inl (omega (arith, e)))
+        ∙ subst (λ p. answers (ask_in_round o events p) ≡ answers events ++ new n (lag_run t o.readers events)) (sym e) (its_ask t o shape keys q events n len)
+    | inr lt ↦
+        let apart : (a == q) ≡ false = grind (arith, lt) in
+        let same = other_ask t o shape keys q a events apart in
+        asks_hit (a + 1) k n (ask_in_round o events a) (omega (arith, lt)) (omega (arith, high)) (ap length same ∙ len)
+        ∙ ap (λ l. l ++ new n (lag_run t o.readers (ask_in_round o events a))) same
+        ∙ ap (λ x. answers events ++ (if nat_lt n o.asks then x ∷ [] else [])) (same_answer t shape keys q n _ _ (ask_in_round_run t o events a))
+  ]
 
   round_answers : (n : ℕ) (events : List Event) → q < o.readers → length (answers events) ≡ n
       → answers (with_round t o events) ≡ answers events ++ new n (lag_run t o.readers (with_round t o events))
@@ -78,18 +79,19 @@ one_new : (t : Terms) (o : Options) (shape : Shape) (keys : List FlowKey) (q n :
 one_new t o shape keys q n =
     let f : ℕ → AnswerParts = λ k. answer_in t shape keys q k (round_state t o (k + 1)) in
     elim (cases_lt n o.asks) [
-      inl lt ↦
-        let now : min n o.asks ≡ n = omega (arith, lt) in
-        let later : n + 1 ≡ min (suc n) o.asks = omega (arith, lt) in
-        let asks : nat_lt n o.asks ≡ true = grind (arith, lt) in
-        let last : suc n ≡ n + 1 = omega arith in
-        rw (now, ← later, asks) (ap (λ m. map f (range_with_len 0 n) ++ answer_in t shape keys q n (round_state t o m) ∷ []) last
-            ∙ sym (map-append f (range_with_len 0 n) (n ∷ [])) ∙ ap (map f) (sym (range_more 0 n ∙ ap (λ m. range_with_len 0 n ++ m ∷ []) (zero-add n))))
+      | inl lt ↦
+          let now : min n o.asks ≡ n = omega (arith, lt) in
+          let later : n + 1 ≡ min (suc n) o.asks = omega (arith, lt) in
+          let asks : nat_lt n o.asks ≡ true = grind (arith, lt) in
+          let last : suc n ≡ n + 1 = omega arith in
+          rw (now, ← later, asks) (ap (λ m. map f (range_with_len 0 n) ++ answer_in t shape keys q n (round_state t o m) ∷ []) last
+          ∙ sym (map-append f (range_with_len 0 n) (n ∷ [])) ∙ ap (map f) (sym (range_more 0 n ∙ ap (λ m. range_with_len 0 n ++ m ∷ []) (zero-add n))))
       | inr le ↦
-        let now : min n o.asks ≡ o.asks = omega (arith, le) in
-        let later : min (suc n) o.asks ≡ o.asks = omega (arith, le) in
-        let done : nat_lt o.asks o.asks ≡ false = grind arith in
-        rw (now, later, done) (append-nil (map f (range_with_len 0 o.asks))) ]
+          let now : min n o.asks ≡ o.asks = omega (arith, le) in
+          let later : min (suc n) o.asks ≡ o.asks = omega (arith, le) in
+          let done : nat_lt o.asks o.asks ≡ false = grind arith in
+          rw (now, later, done) (append-nil (map f (range_with_len 0 o.asks)))
+    ]
 
 -- the answers after n rounds
 pub answers_after : (t : Terms) (o : Options) (shape : Shape) (keys : List FlowKey) (q : ℕ) → q < o.readers → (n : ℕ)
@@ -133,7 +135,7 @@ end_own t o shape keys q (suc m) n events len =
     let next = events ++ Ask q ∷ [] in
     let was = answers_to t shape keys o.readers events q in
     let one : answers_to t shape keys o.readers next q ≡ was ++ answer_in t shape keys q n s ∷ [] =
-        answers_more t shape keys o.readers q events next s (own_ask t o.readers q events) ∙ ap (λ k. was ++ answer_in t shape keys q k s ∷ []) len in
+    answers_more t shape keys o.readers q events next s (own_ask t o.readers q events) ∙ ap (λ k. was ++ answer_in t shape keys q k s ∷ []) len in
     let longer : length (answers_to t shape keys o.readers next q) ≡ n + 1 = ap length one ∙ omega (arith, length_push was (answer_in t shape keys q n s), len) in
     ap (λ es. answers_to t shape keys o.readers es q) (sym (append_assoc events (Ask q ∷ []) (replicate m (Ask q))))
     ∙ end_own t o shape keys q m (n + 1) next longer
@@ -161,15 +163,16 @@ ends_hit : (t : Terms) (o : Options) (shape : Shape) (keys : List FlowKey) (q a 
 unfolding ask_at_end
 ends_hit t o shape keys q a zero n events low high len = absurd (omega (arith, low, high))
 ends_hit t o shape keys q a (suc k) n events low high len = elim (eq-or-lt_of_le low) [
-    inl e ↦ ends_skip t o shape keys q (a + 1) k (ask_at_end o events a) (omega (arith, e))
-        ∙ ap (λ p. answers_to t shape keys o.readers (events ++ replicate (o.asks - count_by (is_ask p) events) (Ask p)) q) e
-        ∙ ap (λ m. answers_to t shape keys o.readers (events ++ replicate (o.asks - m) (Ask q)) q) (sym (answers_count t shape keys o.readers q events) ∙ len)
-        ∙ end_own t o shape keys q (o.asks - n) n events len
-    | inr lt ↦
-        let same = end_skip t o shape keys q a (o.asks - count_by (is_ask a) events) events (grind (arith, lt)) in
-        ends_hit t o shape keys q (a + 1) k n (ask_at_end o events a) (omega (arith, lt)) (omega (arith, high)) (ap length same ∙ len)
-        ∙ ap (λ l. l ++ map (λ k. answer_in t shape keys q k (lag_run t o.readers (ask_at_end o events a))) (range_with_len n (o.asks - n))) same
-        ∙ ap (λ f. answers_to t shape keys o.readers events q ++ map f (range_with_len n (o.asks - n))) (λ i k. same_answer t shape keys q k _ _ (end_run t o.readers a (o.asks - count_by (is_ask a) events) events) i) ]
+  | inl e ↦ ends_skip t o shape keys q (a + 1) k (ask_at_end o events a) (omega (arith, e))
+      ∙ ap (λ p. answers_to t shape keys o.readers (events ++ replicate (o.asks - count_by (is_ask p) events) (Ask p)) q) e
+      ∙ ap (λ m. answers_to t shape keys o.readers (events ++ replicate (o.asks - m) (Ask q)) q) (sym (answers_count t shape keys o.readers q events) ∙ len)
+      ∙ end_own t o shape keys q (o.asks - n) n events len
+  | inr lt ↦
+      let same = end_skip t o shape keys q a (o.asks - count_by (is_ask a) events) events (grind (arith, lt)) in
+      ends_hit t o shape keys q (a + 1) k n (ask_at_end o events a) (omega (arith, lt)) (omega (arith, high)) (ap length same ∙ len)
+      ∙ ap (λ l. l ++ map (λ k. answer_in t shape keys q k (lag_run t o.readers (ask_at_end o events a))) (range_with_len n (o.asks - n))) same
+      ∙ ap (λ f. answers_to t shape keys o.readers events q ++ map f (range_with_len n (o.asks - n))) (λ i k. same_answer t shape keys q k _ _ (end_run t o.readers a (o.asks - count_by (is_ask a) events) events) i)
+]
 
 -- the events of all rounds, with the remaining asks
 pub finish_run : (t : Terms) (o : Options) (n : ℕ) → SameRun (round_state t o n) (lag_run t o.readers (fold (ask_at_end o) (events_of_rounds t o n) (range_with_len 0 o.readers)))

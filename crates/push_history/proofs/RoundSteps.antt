@@ -1,12 +1,12 @@
 -- A round as a step of the state.
-use Rattle.std.proofs.Common.{◌≡◌, ◌<◌, ◌≤◌, ℕ, zero, suc, ◌+◌, ◌-◌, List, [], ◌∷◌, ◌++◌, length, Bool, true, false, nat_lt, refl, sym, ap, ◌∙◌, subst, arith, append_assoc}
+use Rattle.std.proofs.Common.{◌≡◌, ◌<◌, ℕ, zero, suc, ◌+◌, List, [], ◌∷◌, ◌++◌, length, true, false, nat_lt, refl, sym, ap, ◌∙◌, subst, arith}
 use Rattle.std.specs.Prelude.{fold, if◌then◌else◌, min, count_by}
 use Rattle.std.specs.List.{flat_map, range_with_len}
 use Rattle.std.proofs.lemmas.List.{append-nil}
 use Rattle.hash_rows.specs.declared.options.Options.{Options}
 use Rattle.hash_rows.specs.declared.shape.Push.{Push}
 use Rattle.push_history.specs.declared.event.Event.{Event}
-use Rattle.push_history.specs.declared.event.Event.TheVariants.{Update, Take, Publish, Ask}
+use Rattle.push_history.specs.declared.event.Event.TheVariants.{Publish, Ask}
 use Rattle.push_history.specs.LagRun.{Terms, Worker, State, worker_in, lag_step, lag_run}
 use Rattle.push_history.specs.Answers.{is_ask}
 use Rattle.push_history.specs.Rounds.{count_in_round, fold_in_round, ask_in_round, with_round}
@@ -65,12 +65,12 @@ before_asks_run t o events s is len =
     let counting = fold (count_in_round t o) events (range_with_len 0 o.workers) in
     let s₁ = lag_run t o.readers counting in
     let counted : Steps (counted_in_round t o) (λ w x. []) 0 o.workers s s₁ =
-        phase_run t o.readers (count_in_round t o) (counted_in_round t o) (λ w x. []) (counting_is_phase t o) 0 o.workers events s is (omega (arith, len)) in
+    phase_run t o.readers (count_in_round t o) (counted_in_round t o) (λ w x. []) (counting_is_phase t o) 0 o.workers events s is (omega (arith, len)) in
     let n : Worker → ℕ = λ x. min o.batch (held_of x) in
     let folding = fold (fold_in_round t o) counting (range_with_len 0 o.workers) in
     let s₂ = lag_run t o.readers folding in
     let folded : Steps (λ w x. with_taken x (n x)) (λ w x. next_taken x (n x)) 0 o.workers s₁ s₂ =
-        phase_run t o.readers (fold_in_round t o) _ _ (folding_is_phase t o) 0 o.workers counting s₁ refl (omega (arith, len, counted.len)) in
+    phase_run t o.readers (fold_in_round t o) _ _ (folding_is_phase t o) 0 o.workers counting s₁ refl (omega (arith, len, counted.len)) in
     let at : (w : ℕ) → w < o.workers → worker_in s₁ w ≡ counted_in_round t o w (worker_in s w) = λ w lt. counted.done w (omega arith) (omega (arith, lt)) in
     let list : s₁.folded ≡ s.folded = counted.folded ∙ ap (λ (l : List Push). s.folded ++ l) (nothing_folded 0 o.workers) ∙ append-nil s.folded in
     let shown = publish_run t o.readers folding s₂ refl in
@@ -78,7 +78,7 @@ before_asks_run t o events s is len =
       len = folded.len ∙ counted.len;
       workers = λ w lt. folded.done w (omega arith) (omega (arith, lt)) ∙ ap (λ (x : Worker). with_taken x (n x)) (at w lt);
       folded = folded.folded ∙ ap (λ (l : List Push). l ++ flat_map (λ w. next_taken (worker_in s₁ w) (n (worker_in s₁ w))) (range_with_len 0 o.workers)) list
-        ∙ ap (λ (l : List Push). s.folded ++ l) (flat_map_same _ _ 0 o.workers (λ w _ lt. ap (λ (x : Worker). next_taken x (n x)) (at w (omega (arith, lt)))));
+          ∙ ap (λ (l : List Push). s.folded ++ l) (flat_map_same _ _ 0 o.workers (λ w _ lt. ap (λ (x : Worker). next_taken x (n x)) (at w (omega (arith, lt)))));
       shown = refl;
     })
 

@@ -46,12 +46,12 @@ values_of_share r shape packets cell (i ∷ is) =
     ∙ ap (λ t. t ++ values_for cell (flat_map (updates_at r shape packets) is)) (values_at r shape packets cell i)
     ∙ ap (λ t. packet_values r shape cell (packet_at packets i) ++ t) (values_of_share r shape packets cell is)
 
-range_more : (n : ℕ) → range_with_len 0 (n + 1) ≡ range_with_len 0 n ++ n ∷ []
+pub range_more : (n : ℕ) → range_with_len 0 (n + 1) ≡ range_with_len 0 n ++ n ∷ []
 range_more n =
     sym (map-id (range_with_len 0 (n + 1))) ∙ map-range_with_len_more (λ x. x) 0 n n (omega arith) ∙ ap (λ t. t ++ n ∷ []) (map-id (range_with_len 0 n))
 
 -- going over a list by its places
-by_places : {X Y : Type 0} (f : X → List Y) (xs : List X) (d : X) (n : ℕ) → n ≤ length xs → flat_map f (take n xs) ≡ flat_map (λ i. f (get_or xs i d)) (range_with_len 0 n)
+pub by_places : {X Y : Type 0} (f : X → List Y) (xs : List X) (d : X) (n : ℕ) → n ≤ length xs → flat_map f (take n xs) ≡ flat_map (λ i. f (get_or xs i d)) (range_with_len 0 n)
 by_places f xs d zero le = refl
 by_places {X} {Y} f xs d (suc n) le =
     let next : suc n ≡ n + 1 = omega arith in
@@ -61,7 +61,7 @@ by_places {X} {Y} f xs d (suc n) le =
     ∙ ap (λ (t : List Y). t ++ (f (get_or xs n d) ++ [])) (by_places f xs d n (omega (arith, le)))
     ∙ sym (ap (flat_map (λ i. f (get_or xs i d))) (range_more n) ∙ flat_map-append (λ i. f (get_or xs i d)) (range_with_len 0 n) (n ∷ [])))
 
-worker_within : (sharing : Share) (workers : ℕ) (packets : List Packet) (i : ℕ) → 0 < workers → worker_of sharing workers packets i < workers
+pub worker_within : (sharing : Share) (workers : ℕ) (packets : List Packet) (i : ℕ) → 0 < workers → worker_of sharing workers packets i < workers
 unfolding share_of_key
 worker_within Turn workers packets i some = mod-lt i some
 worker_within Key workers packets i some = mod-lt _ some

@@ -1,6 +1,7 @@
 -- What is told before each update, and what is left.
 use Rattle.std.proofs.Common.{◌≡◌, ◌<◌, ◌≤◌, ℕ, zero, suc, ◌+◌, ◌-◌, ◌==◌, ◌||◌, ℤ, pos, List, [], ◌∷◌, ◌++◌, length, get_or, take, Bool, true, false, if◌then◌else◌, nat_lt, refl, sym, ap, ◌∙◌, subst, arith, inl, inr}
-use Rattle.std.specs.Prelude.{map}
+use Rattle.std.specs.Prelude.{All, map}
+use Rattle.std.proofs.lemmas.List.Elements.{All-take}
 use Rattle.std.specs.List.Sorted.{IsStrictlyIncreasing}
 use Rattle.std.proofs.lemmas.Bool.{cases_lt}
 use Rattle.std.proofs.lemmas.List.{get_or-map, length-map, take_more}
@@ -16,7 +17,7 @@ use Rattle.push_history.specs.Residue.{residue, residue_size}
 use Rattle.push_history.specs.Front.{message_at, upto_of}
 use Rattle.push_history.specs.Pushes.{is_sent, is_refused, distance_at, TellsAll, ArePushes}
 use Rattle.push_history.proofs.Lists.{filter_front, filter_same, each_fails, some_passes}
-use Rattle.push_history.proofs.Joins.{whole_push, told_push}
+use Rattle.push_history.proofs.Joins.{whole_push, told_push, whole_value}
 
 -- no message: what a list shows past its end
 no_push : Push
@@ -284,3 +285,41 @@ large_refused r laws T U S F values h some (suc m) cell le far =
     let far' : T ≤ residue_size r U S (m + 1) cell = subst (λ (n : ℕ). T ≤ residue_size r U S n cell) next far in
     subst (λ (n : ℕ). LastRefused U F n cell) (sym next)
     (large_by r laws T U S F values h some m cell (omega (arith, le)) far' (λ earlier. large_refused r laws T U S F values h some m cell (omega (arith, le)) earlier) ((update_at U m).cell == cell) refl)
+
+-- what messages tell are values
+pub amounts_are_values : (r : Rules) → AreLaws r → (T : ℕ) (U : List Update) (S : List Push) (F : List ℕ) → HoldValues r U → ArePushes r T U S F → All (λ m. r.is_value m.amount ≡ true) S
+unfolding whole
+amounts_are_values r laws T U S F values h = λ k d lt.
+    let m : Push = get_or S k d in
+    let tells : TellsAll r U S m = h.amounts k d lt in
+    let was = told_behind r laws T U S F values h m.update m.cell (omega (arith, tells.within)) in
+    ap r.is_value tells.amount
+    ∙ laws.gap_value (told r S m.update m.cell) (whole r U (m.update + 1) m.cell) was.told_is
+    (whole_value r laws m.cell (take (m.update + 1) U) (All-take (λ u. r.is_value u.value ≡ true) (m.update + 1) U values))
+
+-- the messages before one update more: none is added where none tells the update
+pub before_quiet : (S : List Push) (m : ℕ) → is_sent m S ≡ false → messages_before (m + 1) S ≡ messages_before m S
+before_quiet S m none = filter_same (λ x. nat_lt x.update (m + 1)) (λ x. nat_lt x.update m) S (λ k d lt. let other = each_fails (λ x. x.update == m) S none k d lt in grind arith)
+
+-- and one where one does
+pub before_sent : (r : Rules) (T : ℕ) (U : List Update) (S : List Push) (F : List ℕ) → ArePushes r T U S F → (m : ℕ) → is_sent m S ≡ true
+    → (x : Push) × (messages_before (m + 1) S ≡ messages_before m S ++ x ∷ []) × TellsAll r U S x × (x.update ≡ m)
+before_sent r T U S F h m sent =
+    let at = some_passes (λ x. x.update == m) S sent in
+    let d : Push = record { worker = 0; packet = 0; update = 0; key = zero_key; cell = 0; amount = pos 0 } in
+    let x : Push = get_or S at.0 d in
+    let is = at.2 d in
+    let n : x.update ≡ m = grind arith in
+    let before : messages_before m S ≡ take at.0 S = subst (λ (k : ℕ). messages_before k S ≡ take at.0 S) n (before_at S h.rising at.0 d at.1) in
+    let after : messages_before (m + 1) S ≡ take (at.0 + 1) S = subst (λ (k : ℕ). messages_before (k + 1) S ≡ take (at.0 + 1) S) n (before_next S h.rising at.0 d at.1) in
+    (x, after ∙ take_more S at.0 d at.1 ∙ ap (λ (t : List Push). t ++ x ∷ []) (sym before), h.amounts at.0 d at.1, n)
+
+-- the messages before the number of a front are its first ones
+pub messages_first : (S : List Push) → IsStrictlyIncreasing (map (λ m. m.update) S) → (j : ℕ) → j ≤ length S → messages_before (upto_of S j) S ≡ take j S
+unfolding upto_of
+messages_first S rising zero le = before_is_take S 0 0 (λ k d lt within. absurd (omega (arith, lt))) (λ k d lt within. omega arith)
+messages_first S rising (suc i) le =
+    let next : suc i ≡ i + 1 = omega arith in
+    subst (λ (j : ℕ). messages_before (upto_of S j) S ≡ take j S) (sym next)
+    (ap (λ (n : ℕ). messages_before n S) (upto_next S i)
+    ∙ before_next S rising i (record { worker = 0; packet = 0; update = 0; key = zero_key; cell = 0; amount = pos 0 }) (omega (arith, le)))

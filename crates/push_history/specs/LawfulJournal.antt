@@ -9,10 +9,11 @@ use Rattle.hash_rows.specs.declared.options.Sketch.TheVariants.{CountMin, LogLog
 use Rattle.hash_rows.specs.declared.shape.Packet.{Packet}
 use Rattle.hash_rows.specs.declared.shape.Flow.{Flow}
 use Rattle.hash_rows.specs.declared.shape.Push.{Push}
+use Rattle.hash_rows.specs.Keys.{same_key}
 use Rattle.push_history.specs.Pushes.{LawfulPushes}
 use Rattle.push_history.specs.Front.{IsFront}
 use Rattle.push_history.specs.Shown.{shown_cells, told_cells}
-use Rattle.push_history.specs.LiveHeavy.{same_key, is_among, notes_of, live_keys, missed_keys}
+use Rattle.push_history.specs.LiveHeavy.{is_among, notes_of, live_keys, missed_keys}
 use Rattle.push_history.specs.Answers.{AnswerParts}
 use Rattle.push_history.specs.Journal.{Journal, with_journal, keys_of, rules_in, updates_by_options}
 use Rattle.push_history.specs.Rounds.{IsRoundsJournal}

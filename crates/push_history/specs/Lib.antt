@@ -12,5 +12,6 @@ pub mod Answers
 pub mod Journal
 pub mod Rounds
 pub mod LawfulJournal
+pub mod LawfulRun
 pub mod OwnSteps
 pub mod RoundStates

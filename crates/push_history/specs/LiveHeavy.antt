@@ -2,17 +2,13 @@
 use Rattle.std.specs.Prelude.{ℕ, ℤ, ◌+◌, ◌∷◌, ◌++◌, List, [], Bool, not, if◌then◌else◌, length, take, map, filter, fold, int_le}
 use Rattle.std.specs.List.{list_any, range_with_len}
 use Rattle.packet_key.specs.declared.key.FlowKey.{FlowKey}
-use Rattle.packet_key.specs.contracts.key.FlowKeyPartialEq.TheImpl as equality
 use Rattle.hash_rows.specs.declared.shape.Shape.{Shape}
 use Rattle.hash_rows.specs.declared.shape.Flow.{Flow}
 use Rattle.hash_rows.specs.declared.shape.Push.{Push}
+pub use Rattle.hash_rows.specs.Keys.{same_key}
 use Rattle.hash_rows.specs.Rules.{Rules}
 use Rattle.push_history.specs.Front.{message_at}
 use Rattle.push_history.specs.Shown.{told_cells}
-
--- what `==` answers of two keys
-abbrev pub same_key : FlowKey → FlowKey → Bool
-same_key = (equality.ghosts).eq
 
 -- whether the key is one of these
 abbrev pub is_among : List FlowKey → FlowKey → Bool

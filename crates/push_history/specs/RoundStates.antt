@@ -1,5 +1,5 @@
 -- What rounds make of a state.
-use Rattle.std.specs.Prelude.{◌≡◌, ◌<◌, ℕ, ◌++◌, List, length}
+use Rattle.std.specs.Prelude.{◌≡◌, ◌<◌, ℕ, ◌++◌, length}
 use Rattle.std.specs.List.{flat_map, range_with_len}
 use Rattle.hash_rows.specs.declared.options.Options.{Options}
 use Rattle.push_history.specs.LagRun.{Terms, State, worker_in, lag_run}

@@ -1,4 +1,4 @@
-ghost use Rattle.std.specs.Prelude.{◌≡◌, ◌≤◌, ◌<◌, ◌^◌, ℕ, List, All, Some, length, map, slice_get, take, true};
+ghost use Rattle.std.specs.Prelude.{◌≡◌, ◌≤◌, ◌<◌, ◌^◌, ℕ, List, All, Some, drop, length, map, slice_get, take, true};
 ghost use Rattle.std.specs.List.{range_with_len};
 ghost use Rattle.hash_rows.specs.declared.options.Share.{Share};
 ghost use Rattle.hash_rows.specs.declared.shape.Packet.{Packet};
@@ -7,7 +7,10 @@ ghost use Rattle.hash_rows.specs.declared.shape.Shape.{Shape};
 ghost use Rattle.hash_rows.specs.declared.shape.Update.{Update};
 ghost use Rattle.hash_rows.specs.Rules.{Rules, AreLaws};
 ghost use Rattle.hash_rows.specs.Sequential.{joined_of, sequential};
+ghost use Rattle.push_history.specs.declared.event.Event.{Event};
 ghost use Rattle.push_history.specs.Front.{front_of, messages_of, upto_of};
+ghost use Rattle.push_history.specs.LagRun.{State, Terms, lag_run, updates_by, worker_in};
+ghost use Rattle.push_history.specs.LawfulRun.{IsLawfulState};
 ghost use Rattle.push_history.specs.Pushes.{ArePushes, is_refused};
 ghost use Rattle.push_history.specs.Residue.{residue, residue_size};
 ghost use Rattle.push_history.specs.Share.{share_of_worker};
@@ -60,4 +63,23 @@ pub fn fold_is_shown()
         ((w : ℕ) (sent : List Push) → slice_get messages w ≡ Some sent →
         messages_of w folded ≡ take (length (messages_of w folded)) sent) →
         (cell : ℕ) → shown_of r messages (front_of workers folded) cell ≡ told_of r cell folded }
+{}
+
+/// In every state of a run the messages and the refused updates of each worker are lawful, and the
+/// messages that were folded are those that were taken of each worker, in order.
+pub fn run_is_lawful()
+    ensures { (t : Terms) (readers : ℕ) (events : List Event) → IsLawfulState t (lag_run t readers events) }
+{}
+
+/// What a worker counted of a cell is what is shown of it, what is folded and not shown, what waits
+/// in its lane, and the residue.
+pub fn nothing_is_lost()
+    ensures { (t : Terms) → AreLaws t.rules → ((w : ℕ) → HoldValues t.rules (updates_by t w)) →
+        (s : State) → IsLawfulState t s → (w cell : ℕ) → w < length t.updates →
+        let x = worker_in s w in
+        let shown = told_of t.rules cell (messages_of w (take s.shown s.folded)) in
+        let folded = told_of t.rules cell (messages_of w (drop s.shown s.folded)) in
+        let queued = told_of t.rules cell (drop x.taken x.sent) in
+        whole t.rules (updates_by t w) x.counted cell
+        ≡ t.rules.join (t.rules.join (t.rules.join shown folded) queued) (residue t.rules (updates_by t w) x.sent x.counted cell) }
 {}

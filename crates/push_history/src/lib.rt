@@ -6,6 +6,6 @@ mod laws;
 
 pub use event::{Event, Reply};
 pub use laws::{
-    fold_is_shown, large_only_where_refused, sequential_is_the_join_of_wholes, told_by_prefix,
-    whole_is_told_and_residue,
+    fold_is_shown, large_only_where_refused, nothing_is_lost, run_is_lawful,
+    sequential_is_the_join_of_wholes, told_by_prefix, whole_is_told_and_residue,
 };

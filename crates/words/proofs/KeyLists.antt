@@ -1,5 +1,5 @@
 -- Lists of key texts, cut at their commas.
-use Rattle.std.proofs.Common.{◌≡◌, ◌∙◌, ◌+◌, ◌<◌, ◌≤◌, ◌≢◌, ℕ, refl, sym, ap, ap₂, subst, arith, List, [], ◌∷◌, ◌++◌, map, length, take, get_or, true, false}
+use Rattle.std.proofs.Common.{◌≡◌, ◌∙◌, ◌+◌, ◌<◌, ◌≤◌, ◌≢◌, ℕ, refl, sym, ap, ap₂, arith, List, [], ◌∷◌, ◌++◌, map, length, take, get_or}
 use Rattle.std.specs.Prelude.{◌==◌, All, AllPairs}
 use Rattle.std.specs.List.{Contains, join_with_byte, slice_split}
 use Rattle.std.proofs.lemmas.List.{get_or-map, get_or-take, length-map, length-take, map-append, take-map, take_all, take_more}

@@ -1,5 +1,5 @@
 -- What a key's text says.
-use Rattle.std.proofs.Common.{◌≡◌, ◌<◌, ◌≢◌, ℕ, refl, arith}
+use Rattle.std.proofs.Common.{◌≡◌, ◌≢◌, ℕ, refl, arith}
 use Rattle.std.specs.Prelude.{◌==◌, All, false}
 use Rattle.packet_key.specs.declared.key.FlowKey.{FlowKey}
 use Rattle.packet_key.specs.KeyText.{IsKey, text_of}

@@ -1,5 +1,5 @@
 -- The options that parts give are lawful.
-use Rattle.std.proofs.Common.{◌≡◌, ◌∙◌, ◌<◌, ◌≤◌, ◌≢◌, ℕ, Bool, true, false, not, sym, subst, arith, List, [], ◌∷◌, length, Option, Some, None, codes, true≢false, ◌||◌}
+use Rattle.std.proofs.Common.{◌≡◌, ◌≤◌, ◌≢◌, ℕ, true, not, sym, subst, arith, List, [], ◌∷◌, length, Option, Some, None, codes, true≢false, ◌||◌}
 use Rattle.std.specs.Prelude.{ℤ, pos, ◌≤ℤ◌, AllPairs, is_some}
 use Rattle.std.proofs.lemmas.Int.{ints}
 use Rattle.hash_rows.specs.Lawful.{IsLawful, Suits}

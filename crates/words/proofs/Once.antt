@@ -1,5 +1,5 @@
 -- Parts give at most one set of options.
-use Rattle.std.proofs.Common.{◌≡◌, ◌∙◌, ◌<◌, ◌≤◌, ◌^◌, ℕ, refl, sym, ap, subst, arith, List, [], ◌∷◌, Option, Some, None, codes}
+use Rattle.std.proofs.Common.{◌≡◌, ◌∙◌, ◌<◌, ◌^◌, ℕ, refl, sym, ap, subst, arith, List, Option, Some, None, codes}
 use Rattle.std.specs.Prelude.{ℤ, pos}
 use Rattle.std.proofs.lemmas.Fmt.{decimal_injective}
 use Rattle.hash_rows.specs.OptionTexts.{amount_text, full_text, share_text, sketch_text}

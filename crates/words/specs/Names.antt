@@ -1,5 +1,5 @@
 -- The names of the command line.
-use Rattle.std.specs.Prelude.{Bool, true, false, List, [], ◌∷◌, codes}
+use Rattle.std.specs.Prelude.{true, false, List, [], ◌∷◌, codes}
 use Rattle.words.specs.Grammar.{Name, Text}
 
 abbrev pub an_option : Text → Name
@@ -27,5 +27,4 @@ line_names = an_option (codes "rows")
     ∷ an_option (codes "records")
     ∷ an_option (codes "start")
     ∷ an_option (codes "full")
-    ∷ a_flag (codes "journal")
     ∷ []

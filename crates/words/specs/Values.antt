@@ -1,9 +1,13 @@
 -- What the values of a line say: numbers, choices and lists of keys.
-use Rattle.std.specs.Prelude.{◌≡◌, ◌≢◌, ◌≤◌, ℕ, ℤ, pos, List, [], map, length, Option, Some, None, All, AllPairs, decimal}
+use Rattle.std.specs.Prelude.{◌≡◌, ◌≢◌, ◌≤◌, ℕ, ℤ, pos, List, [], map, length, Option, Some, None, All, AllPairs, MatchOption, decimal}
 use Rattle.std.specs.List.{join_with_byte}
 use Rattle.packet_key.specs.declared.key.FlowKey.{FlowKey}
 use Rattle.packet_key.specs.KeyText.{IsKey, text_of}
 use Rattle.words.specs.Grammar.{Text}
+
+-- the answer is a value that has the property, and `None` only where no value has it
+abbrev pub Finds : {X : Type 0} → (X → Type 0) → Option X → Type 0
+Finds {X} Has answer = MatchOption answer ((x : X) → Has x → ⊥) Has
 
 -- the text writes the number in digits, without a sign or a leading zero, and it is in range
 abbrev pub IsNumberIn : ℕ → ℕ → Text → ℕ → Type 0

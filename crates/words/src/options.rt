@@ -1,11 +1,9 @@
-ghost use Rattle.std.specs.Prelude.{◌≡◌, ℕ, List, MatchOption, true, false};
-ghost use Rattle.packet_key.specs.declared.key.FlowKey.{FlowKey};
+ghost use Rattle.std.specs.Prelude.{◌≡◌, List, true, false, codes};
 ghost use Rattle.words.specs.Grammar.{Part, value_in};
 ghost use Rattle.words.specs.Names.{line_names};
 ghost use Rattle.words.specs.Matches.{AreMatches};
-ghost use Rattle.words.specs.Values.{ReadsKeys};
+ghost use Rattle.words.specs.Values.{Finds, ReadsKeys};
 ghost use Rattle.words.specs.Options.{GivesOptions, GivesShape, HasRegisters, most_rows, usual_rows, usual_threshold, suits};
-ghost use Rattle.std.specs.Prelude.{codes};
 
 use crate::values::{
     amount_or, full_or, is_registers, least_or, number_or, share_or, sketch_or, small_or,
@@ -69,14 +67,10 @@ fn suits(matches: &ArgMatches<'_>, sketch: Sketch) -> bool
 // The shape that the matches hold.
 fn shape_of(matches: &ArgMatches<'_>, sketch: Sketch) -> Option<Shape>
     ensures { (parts : List Part) → AreMatches line_names parts matches.now
-        → MatchOption result ((s : Shape) → GivesShape parts sketch s → ⊥) (GivesShape parts sketch) }
+        → Finds (GivesShape parts sketch) result }
 {
-    let rows = small_or(
-        matches.get_str("rows"),
-        1,
-        most_rows(sketch),
-        usual_rows(sketch),
-    )?;
+    let usual = usual_rows(sketch);
+    let rows = small_or(matches.get_str("rows"), 1, most_rows(sketch), usual)?;
     let columns = small_or(matches.get_str("columns"), 1, 65536, 2048)?;
     if !has_columns(sketch, columns) {
         return None;
@@ -88,49 +82,32 @@ fn shape_of(matches: &ArgMatches<'_>, sketch: Sketch) -> Option<Shape>
 pub(crate) fn options_of(matches: &ArgMatches<'_>, watch: Keys) -> Option<Options>
     ensures { (parts : List Part) → AreMatches line_names parts matches.now
         → ReadsKeys (value_in (codes "watch") parts) watch.items → watch.room ≡ 16
-        → MatchOption result ((o : Options) → GivesOptions parts o → ⊥) (GivesOptions parts) }
+        → Finds (GivesOptions parts) result }
 {
     let sketch = sketch_or(matches.get_str("sketch"))?;
     if !suits(matches, sketch) {
         return None;
     }
-    let threshold = number_or(
-        matches.get_str("threshold"),
-        1,
-        1099511627776,
-        usual_threshold(sketch),
-    )?;
+    let usual = usual_threshold(sketch);
+    let threshold = number_or(matches.get_str("threshold"), 1, 1099511627776, usual)?;
     let shape = shape_of(matches, sketch)?;
-    let amount = amount_or(matches.get_str("amount"))?;
-    let share = share_or(matches.get_str("share"))?;
-    let full = full_or(matches.get_str("full"))?;
-    let workers = small_or(matches.get_str("workers"), 1, 16, 4)?;
-    let lane = small_or(matches.get_str("lane"), 1, 4096, 64)?;
-    let batch = small_or(matches.get_str("batch"), 1, 1024, 32)?;
-    let round = small_or(matches.get_str("round"), 1, 65536, 64)?;
-    let readers = small_or(matches.get_str("readers"), 0, 4, 0)?;
-    let asks = small_or(matches.get_str("asks"), 0, 1024, 0)?;
-    let heavy = small_or(matches.get_str("heavy"), 1, 1024, 64)?;
-    let least = least_or(matches.get_str("least"))?;
-    let journal = matches.get_flag("journal");
-    let mode = Mode::Rounds;
     Some(Options {
         sketch,
         shape,
-        amount,
-        share,
-        workers,
+        amount: amount_or(matches.get_str("amount"))?,
+        share: share_or(matches.get_str("share"))?,
+        workers: small_or(matches.get_str("workers"), 1, 16, 4)?,
         threshold,
-        lane,
-        batch,
-        round,
-        full,
-        mode,
-        readers,
-        asks,
+        lane: small_or(matches.get_str("lane"), 1, 4096, 64)?,
+        batch: small_or(matches.get_str("batch"), 1, 1024, 32)?,
+        round: small_or(matches.get_str("round"), 1, 65536, 64)?,
+        full: full_or(matches.get_str("full"))?,
+        mode: Mode::Rounds,
+        readers: small_or(matches.get_str("readers"), 0, 4, 0)?,
+        asks: small_or(matches.get_str("asks"), 0, 1024, 0)?,
+        heavy: small_or(matches.get_str("heavy"), 1, 1024, 64)?,
+        least: least_or(matches.get_str("least"))?,
+        journal: false,
         watch,
-        heavy,
-        least,
-        journal,
     })
 }

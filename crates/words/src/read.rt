@@ -1,11 +1,10 @@
-ghost use Rattle.std.specs.Prelude.{◌≡◌, ℕ, IfOk, IfErr, MatchOption, map, string_bytes, List};
+ghost use Rattle.std.specs.Prelude.{◌≡◌, ℕ, IfOk, IfErr, map, string_bytes, List};
 ghost use Rattle.hash_rows.specs.Lawful.{IsLawful};
 ghost use Rattle.hash_rows.specs.declared.options.Options.{Options};
-ghost use Rattle.words.specs.Grammar.{Part, value_in};
+ghost use Rattle.words.specs.Grammar.{Part};
 ghost use Rattle.words.specs.Names.{line_names};
 ghost use Rattle.words.specs.Matches.{AreMatches};
 ghost use Rattle.words.specs.Options.{Gives, GivesLoad, GivesOptions, GivesRun, options_in};
-ghost use Rattle.std.specs.Prelude.{codes};
 
 use crate::options::options_of;
 use crate::parser::matches_of;
@@ -13,15 +12,16 @@ use crate::values::number_of;
 use crate::watch::keys_or;
 use crate::{Command, WordStop};
 use clap::ArgMatches;
-use hash_rows::Options;
+use hash_rows::{Mode, Options};
 use std::alloc::Global;
 
-/// The command that the words behind the program's name give. `Usage` comes exactly where the
-/// words are not in the grammar.
+/// The command that the words give; the program's name is not among them. `Usage` comes exactly
+/// where they are not in the grammar, and `NoMemory` only for want of memory.
 pub fn read_words(alloc: Global, words: &[String]) -> Result<Command, WordStop>
     ensures ok { IfOk result (Gives (map string_bytes words.now)) }
     ensures once { IfOk result (λ c. (d : Command) → Gives (map string_bytes words.now) d → c ≡ d) }
     ensures lawful { IfOk result (λ c. IsLawful (options_in c)) }
+    ensures rounds { IfOk result (λ c. (options_in c).mode ≡ Mode.Rounds) }
     ensures usage { IfErr result (λ e. e ≡ WordStop.Usage → (c : Command) → Gives (map string_bytes words.now) c → ⊥) }
 {
     let Some((first, rest)) = words.split_first() else {

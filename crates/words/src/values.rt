@@ -1,7 +1,8 @@
-ghost use Rattle.std.specs.Prelude.{◌≡◌, ℕ, ℤ, MatchOption, option_map, IsTrue, true, false};
+ghost use Rattle.std.specs.Prelude.{◌≡◌, true, false};
+ghost use Rattle.std.specs.Option.{option_copied};
 ghost use Rattle.hash_rows.specs.Lawful.{IsRegisters};
 ghost use Rattle.hash_rows.specs.OptionTexts.{sketch_text, amount_text, share_text, full_text};
-ghost use Rattle.words.specs.Values.{IsNumberIn, ReadsNumber, NeedsNumber, ReadsInteger, ReadsChoice};
+ghost use Rattle.words.specs.Values.{Finds, IsNumberIn, ReadsNumber, NeedsNumber, ReadsInteger, ReadsChoice};
 ghost use Rattle.words.specs.Forms.{is_plain};
 
 use hash_rows::{Amount, Full, Share, Sketch};
@@ -16,7 +17,7 @@ fn is_plain(text: &str) -> bool
 
 /// The number that the text writes, where it is in range.
 pub(crate) fn number_in(text: &str, low: u64, high: u64) -> Option<u64>
-    ensures { MatchOption result ((n : ℕ) → IsNumberIn low high text.now n → ⊥) (IsNumberIn low high text.now) }
+    ensures { Finds (IsNumberIn low high text.now) result }
 {
     if !is_plain(text) {
         return None;
@@ -32,8 +33,7 @@ pub(crate) fn number_in(text: &str, low: u64, high: u64) -> Option<u64>
 
 /// The number of an option that may be missing.
 pub(crate) fn number_or(text: Option<&str>, low: u64, high: u64, otherwise: u64) -> Option<u64>
-    ensures { MatchOption result ((n : ℕ) → ReadsNumber low high otherwise (option_map (λ s. s.now) text.entry) n → ⊥)
-        (ReadsNumber low high otherwise (option_map (λ s. s.now) text.entry)) }
+    ensures { Finds (ReadsNumber low high otherwise (option_copied text.entry)) result }
 {
     match text {
         Some(text) => number_in(text, low, high),
@@ -43,8 +43,7 @@ pub(crate) fn number_or(text: Option<&str>, low: u64, high: u64, otherwise: u64)
 
 /// The same for a smaller number.
 pub(crate) fn small_or(text: Option<&str>, low: u32, high: u32, otherwise: u32) -> Option<u32>
-    ensures { MatchOption result ((n : ℕ) → ReadsNumber low high otherwise (option_map (λ s. s.now) text.entry) n → ⊥)
-        (ReadsNumber low high otherwise (option_map (λ s. s.now) text.entry)) }
+    ensures { Finds (ReadsNumber low high otherwise (option_copied text.entry)) result }
 {
     match text {
         Some(text) => {
@@ -57,8 +56,7 @@ pub(crate) fn small_or(text: Option<&str>, low: u32, high: u32, otherwise: u32) 
 
 /// The number of an option that has to stand.
 pub(crate) fn number_of(text: Option<&str>, high: u32) -> Option<u32>
-    ensures { MatchOption result ((n : ℕ) → NeedsNumber 0 high (option_map (λ s. s.now) text.entry) n → ⊥)
-        (NeedsNumber 0 high (option_map (λ s. s.now) text.entry)) }
+    ensures { Finds (NeedsNumber 0 high (option_copied text.entry)) result }
 {
     let n = number_in(text?, 0, u64::from(high))?;
     Some(n as u32)
@@ -66,8 +64,7 @@ pub(crate) fn number_of(text: Option<&str>, high: u32) -> Option<u32>
 
 /// The least estimate of a heavy flow.
 pub(crate) fn least_or(text: Option<&str>) -> Option<i64>
-    ensures { MatchOption result ((z : ℤ) → ReadsInteger 1 1099511627776 1024 (option_map (λ s. s.now) text.entry) z → ⊥)
-        (ReadsInteger 1 1099511627776 1024 (option_map (λ s. s.now) text.entry)) }
+    ensures { Finds (ReadsInteger 1 1099511627776 1024 (option_copied text.entry)) result }
 {
     match text {
         Some(text) => {
@@ -80,8 +77,7 @@ pub(crate) fn least_or(text: Option<&str>) -> Option<i64>
 
 #[tactic(auto, unfolding(hash_rows::specs::OptionTexts::sketch_text))]
 pub(crate) fn sketch_or(text: Option<&str>) -> Option<Sketch>
-    ensures { MatchOption result ((s : Sketch) → ReadsChoice sketch_text Sketch.CountMin (option_map (λ s. s.now) text.entry) s → ⊥)
-        (ReadsChoice sketch_text Sketch.CountMin (option_map (λ s. s.now) text.entry)) }
+    ensures { Finds (ReadsChoice sketch_text Sketch.CountMin (option_copied text.entry)) result }
 {
     let Some(text) = text else {
         return Some(Sketch::CountMin);
@@ -96,8 +92,7 @@ pub(crate) fn sketch_or(text: Option<&str>) -> Option<Sketch>
 
 #[tactic(auto, unfolding(hash_rows::specs::OptionTexts::amount_text))]
 pub(crate) fn amount_or(text: Option<&str>) -> Option<Amount>
-    ensures { MatchOption result ((a : Amount) → ReadsChoice amount_text Amount.Packets (option_map (λ s. s.now) text.entry) a → ⊥)
-        (ReadsChoice amount_text Amount.Packets (option_map (λ s. s.now) text.entry)) }
+    ensures { Finds (ReadsChoice amount_text Amount.Packets (option_copied text.entry)) result }
 {
     let Some(text) = text else {
         return Some(Amount::Packets);
@@ -111,8 +106,7 @@ pub(crate) fn amount_or(text: Option<&str>) -> Option<Amount>
 
 #[tactic(auto, unfolding(hash_rows::specs::OptionTexts::share_text))]
 pub(crate) fn share_or(text: Option<&str>) -> Option<Share>
-    ensures { MatchOption result ((s : Share) → ReadsChoice share_text Share.Turn (option_map (λ s. s.now) text.entry) s → ⊥)
-        (ReadsChoice share_text Share.Turn (option_map (λ s. s.now) text.entry)) }
+    ensures { Finds (ReadsChoice share_text Share.Turn (option_copied text.entry)) result }
 {
     let Some(text) = text else {
         return Some(Share::Turn);
@@ -126,8 +120,7 @@ pub(crate) fn share_or(text: Option<&str>) -> Option<Share>
 
 #[tactic(auto, unfolding(hash_rows::specs::OptionTexts::full_text))]
 pub(crate) fn full_or(text: Option<&str>) -> Option<Full>
-    ensures { MatchOption result ((f : Full) → ReadsChoice full_text Full.Leave (option_map (λ s. s.now) text.entry) f → ⊥)
-        (ReadsChoice full_text Full.Leave (option_map (λ s. s.now) text.entry)) }
+    ensures { Finds (ReadsChoice full_text Full.Leave (option_copied text.entry)) result }
 {
     let Some(text) = text else {
         return Some(Full::Leave);

@@ -1,5 +1,5 @@
-ghost use Rattle.std.specs.Prelude.{◌≡◌, ℕ, List, IfOk, IfErr, MatchOption, IfSome, ◌≢◌, option_map, All, MatchBool, Contains, [], true, false};
-ghost use Rattle.packet_key.specs.KeyText.{text_of, IsKey};
+ghost use Rattle.std.specs.Prelude.{◌≡◌, List, IfOk, IfErr, ◌≢◌, All, MatchBool, Contains, [], true, false};
+ghost use Rattle.std.specs.Option.{option_copied};
 ghost use Rattle.packet_key.specs.declared.key.FlowKey.{FlowKey};
 ghost use Rattle.words.specs.Values.{JoinsKeys, ReadsKeys};
 
@@ -40,9 +40,9 @@ fn add_keys(keys: &mut Keys, list: &str) -> bool
 
 /// The watched keys of a list of key texts that may be missing.
 pub(crate) fn keys_or(alloc: Global, list: Option<&str>) -> Result<Keys, WordStop>
-    ensures ok { IfOk result (λ keys. ReadsKeys (option_map (λ s. s.now) list.entry) keys.items) }
+    ensures ok { IfOk result (λ keys. ReadsKeys (option_copied list.entry) keys.items) }
     ensures room { IfOk result (λ keys. keys.room ≡ 16) }
-    ensures usage { IfErr result (λ e. e ≡ WordStop.Usage → (ks : List FlowKey) → ReadsKeys (option_map (λ s. s.now) list.entry) ks → ⊥) }
+    ensures usage { IfErr result (λ e. e ≡ WordStop.Usage → (ks : List FlowKey) → ReadsKeys (option_copied list.entry) ks → ⊥) }
 {
     let Ok(mut keys) = Listed::new(alloc, MOST_WATCHED) else {
         return Err(WordStop::NoMemory);

@@ -1,4 +1,4 @@
-use Rattle.std.proofs.Common.{◌≡◌, ◌∙◌, ◌-◌, ◌/◌, ℕ, ℤ, List, pos, length, get_or, ap₂, w64, FitsSigned, rules, refl}
+use Rattle.std.proofs.Common.{◌≡◌, ◌∙◌, ◌-◌, ◌/◌, ℕ, ℤ, List, pos, length, get_or, ap₂, w64, FitsSigned, rules}
 use Rattle.std.proofs.lemmas.Int.{to_z-of_z}
 use Rattle.hash_rows.specs.Sketches.{lower_median_of, sorted_of}
 use Rattle.count_sketch.proofs.Sorting.{sorted_permutation}

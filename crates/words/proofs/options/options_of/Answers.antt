@@ -1,4 +1,4 @@
-use Rattle.std.proofs.Common.{rules, ℕ, ◌≡◌, ◌∙◌, refl, sym, ap, subst, codes, arith, true, false, true≢false}
+use Rattle.std.proofs.Common.{rules, ℕ, ◌≡◌, ◌∙◌, refl, sym, ap, subst, codes, false, true≢false}
 use Rattle.std.specs.Prelude.{MatchOption, None}
 use Rattle.hash_rows.specs.OptionTexts.{sketch_text}
 use Rattle.hash_rows.specs.declared.options.Sketch.{Sketch}
@@ -23,9 +23,9 @@ returns-in_err-threshold c = λ parts am keys room.
     let none : c.from_residual-in_err-threshold.result ≡ None = search rules in
     subst (λ r. MatchOption r ((o : Options) → GivesOptions parts o → ⊥) (GivesOptions parts)) (sym none) (λ o g.
     let same = same_choice sketch_text CountMin _ _ _ same_sketch g.sketch reads in
-    let usual = ap usual_threshold same ∙ sym c.usual_threshold.ensures in
+    let usual = ap usual_threshold same ∙ sym c.usual_threshold-usual.ensures in
     let number = subst (λ (d : ℕ). ReadsNumber 1 1099511627776 d (value_in (codes "threshold") parts) o.threshold) usual g.threshold in
-    c.in_err-threshold.ensures o.threshold (subst (λ v. ReadsNumber 1 1099511627776 c.usual_threshold.result v o.threshold) (sym (c.get_str-2.ensures ∙ am.values (codes "threshold") refl)) number))
+    c.in_err-threshold.ensures o.threshold (subst (λ v. ReadsNumber 1 1099511627776 c.usual_threshold-usual.result v o.threshold) (sym (c.get_str-2.ensures ∙ am.values (codes "threshold") refl)) number))
 
 pub returns-in_err-shape : goal.returns-in_err-shape
 returns-in_err-shape c = λ parts am keys room.

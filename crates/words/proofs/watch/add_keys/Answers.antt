@@ -1,4 +1,4 @@
-use Rattle.std.proofs.Common.{rules, arith, ◌≡◌, ◌∙◌, ◌<◌, ◌≤◌, ◌≢◌, ℕ, sym, ap, subst, lit<, length, map, take, get_or, Bor, List}
+use Rattle.std.proofs.Common.{rules, arith, ◌∙◌, ◌≢◌, lit<}
 use Rattle.std.specs.Prelude.{All, Contains}
 use Rattle.std.proofs.lemmas.Iterator.Consumers.{YieldsList-end, YieldsList-turn}
 use Rattle.std.proofs.lemmas.Iterator.Splits.{YieldsList-from_str_split}

@@ -1,4 +1,4 @@
-use Rattle.std.proofs.Common.{rules, pos, true, ◌≡◌, ◌∙◌, ℕ, ℤ, sym, refl, arith, w64, FitsSigned, to_z, of_z, get_or, ap, map, fold, ◌<◌}
+use Rattle.std.proofs.Common.{rules, pos, true, ◌≡◌, ◌∙◌, ℕ, ℤ, arith, w64, FitsSigned, to_z, of_z, get_or, ap, map, fold, ◌<◌}
 use Rattle.std.specs.Int.{int_min}
 use Rattle.std.specs.List.{range_with_len}
 use Rattle.std.proofs.lemmas.Int.{to_z-of_z}
@@ -20,12 +20,12 @@ loop-row-preserved c =
     let hash = c.hash_in_row.ensures key c.key_hash-base.ensures in
     let place : cell ≡ place_of shape key row = c.cell_in_row-cell.ensures.place key hash in
     let fits : FitsSigned w64 (value_at cells cell) =
-        fits_sum _ (value_at_any (sums count_min_value count_min_estimate) count_min_lawful cells cell c.requires.values) in
+    fits_sum _ (value_at_any (sums count_min_value count_min_estimate) count_min_lawful cells cell c.requires.values) in
     let least : FitsSigned w64 c.min-least.result = search rules in
     let value : to_z w64 (of_z w64 (get_or cells cell (pos 0))) ≡ value_at cells (place_of shape key row) =
-        to_z-of_z w64 (value_at cells cell) fits ∙ ap (value_at cells) place in
+    to_z-of_z w64 (value_at cells cell) fits ∙ ap (value_at cells) place in
     row_folded int_min (pos 9223372036854775807) (λ r. value_at cells (place_of shape key r)) row _ _ _
-      c.loop-row.invariant value (to_z-of_z w64 c.min-least.result least ∙ c.min-least.ensures.value)
+    c.loop-row.invariant value (to_z-of_z w64 c.min-least.result least ∙ c.min-least.ensures.value)
 
 pub returns : goal.returns
 unfolding count_min_estimate key_cells
@@ -35,7 +35,7 @@ returns c =
     let key = c.args.key.now in
     let value_of : ℕ → ℤ = λ r. value_at cells (place_of shape key r) in
     let first : is_sum (value_of 0) ≡ true =
-        value_at_any (sums count_min_value count_min_estimate) count_min_lawful cells (place_of shape key 0) c.requires.values in
+    value_at_any (sums count_min_value count_min_estimate) count_min_lawful cells (place_of shape key 0) c.requires.values in
     let some : 0 < shape.rows = omega arith in
     let all : c.loop-row.row ≡ shape.rows = omega arith in
     c.loop-row.invariant

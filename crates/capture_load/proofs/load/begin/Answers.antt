@@ -1,0 +1,13 @@
+use Rattle.std.proofs.Common.{rules, ◌≡◌, sym, subst, refl, []}
+use Rattle.pcap_read.specs.Place.{Place, Stands, start_of}
+use Rattle.capture_load.specs.Loads.{Loads}
+use Rattle.capture_load.specs.Packets.{packets_of, tallies_of}
+use Rattle.capture_load.proofs.load.begin.Goals as goal
+
+pub returns-in-Ok-clause-loads : goal.returns-in-Ok-clause-loads
+unfolding packets_of tallies_of
+returns-in-Ok-clause-loads c = record {
+  stands = c.in-Ok.ensures.stands;
+  packets = c.in-Ok.ensures.packets;
+  skipped = refl;
+}

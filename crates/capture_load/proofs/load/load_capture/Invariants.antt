@@ -1,0 +1,15 @@
+use Rattle.std.proofs.Common.{◌≡◌, ◌≤◌, ◌+◌, ◌-◌, ◌*◌, ℕ, List, length}
+use Rattle.flow_base.specs.Flow.{behind}
+use Rattle.pcap_read.specs.Records.{Framed}
+use Rattle.capture_load.specs.Loads.{Loads, Counts}
+use Rattle.capture_load.proofs.load.load_capture.Given as goal
+
+abbrev pub invariant-loop-loading : goal.invariant-loop-loading
+invariant-loop-loading g l =
+    Counts l.loading
+    × (g.S.Source.faults l.initial.source ≤ g.S.Source.faults l.source)
+    × ((given : List ℕ) × (frames : List Framed) × (g.S.Source.left l.initial.source ≡ behind given (g.S.Source.left l.source)) × Loads l.loading given frames)
+    × (l.loading.amount ≡ l.fn.amount)
+
+abbrev pub decreases-loop-loading : goal.decreases-loop-loading
+decreases-loop-loading g l = 24 + 262160 * 16777217 - l.loading.reader.bytes

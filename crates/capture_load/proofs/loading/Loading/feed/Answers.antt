@@ -1,0 +1,26 @@
+use Rattle.std.proofs.Common.{rules, arith, refl, sym, subst, ◌≡◌, ◌≤◌, ◌+◌, ◌*◌, ◌-◌, ◌++◌, ◌<◌, ◌∙◌, List, [], ℕ, length, take, drop, length-take, length-drop, append_assoc}
+use Rattle.std.proofs.lemmas.List.{append-nil}
+use Rattle.pcap_read.specs.Records.{Framed}
+use Rattle.capture_load.specs.Loads.{Loads, StopsIn}
+use Rattle.capture_load.proofs.Fed.{more_taken, rest_taken}
+use Rattle.capture_load.proofs.loading.Loading.feed.Goals as goal
+
+pub loop-at-preserved : goal.loop-at-preserved
+loop-at-preserved c =
+    let piece = c.args.piece.now in
+    let at = c.loop-at.at in
+    let used = c.in-Ok.used in
+    let bound : used ≤ length piece - at = omega (arith, c.in-Ok.ensures.bound, length-take (length piece - at) (drop at piece)) in (
+      c.in-Ok.ensures.counts,
+      (λ bytes frames loads.
+          let was = c.loop-at.invariant.1 bytes frames loads in
+          let s = c.in-Ok.ensures.stepped (bytes ++ take at piece) (frames ++ was.0) was.1 in (
+            was.0 ++ s.0,
+            subst (λ (fs : List Framed). Loads c.step.new.self (bytes ++ take (at + used) piece) fs) (append_assoc frames was.0 s.0)
+                (subst (λ (b : List ℕ). Loads c.step.new.self b (frames ++ was.0 ++ s.0)) (more_taken bytes piece at used) s.1),
+          )),
+      omega arith,
+      omega (arith, c.in-Ok.ensures.bytes, c.loop-at.invariant.3),
+      (λ _. c.in-Ok.ensures.most),
+      c.step.ensures.amount ∙ c.loop-at.invariant.5,
+    )

@@ -1,0 +1,64 @@
+-- The rule of a published pair, and what its steps tell.
+use Rattle.std.specs.Prelude.{◌≡◌, ℕ, List, [], ◌∷◌, map, Option, IfSome, Some, None}
+use mathlib.Core.List.{IsPrefix}
+use mathlib.Core.Option.{some}
+use lib.ListN.{get_elem?}
+use Rattle.logbook.specs.Pages.{Book}
+use Rattle.hash_rows.specs.Rules.{Rules}
+use Rattle.live_view.specs.Sights.{Sight, Page, longer}
+use Rattle.live_view.specs.Fold.{IsFoldOf, absorbed, layout_of}
+use Rattle.hash_rows.specs.declared.shape.Push.{Push}
+use Rattle.live_view.specs.declared.layout.Layout.{Layout}
+use Rattle.live_view.specs.declared.history.Entry.{Entry}
+use Rattle.live_view.specs.declared.rule.Notes.{Notes}
+use Rattle.live_view.specs.declared.rule.Pair.{Pair}
+use Rattle.live_view.specs.declared.rule.Name.{Name}
+
+abbrev pub notes : List Push → Option Pair → Notes
+notes known pair = record { known = known; pair = pair }
+
+abbrev pub name_of : Book → Name
+name_of b = record { number = b.number; log_name = b.log_name; cells_name = b.cells_name }
+
+abbrev pub paired : Book → Layout → Pair
+paired b z = record { book = name_of b; layout = z }
+
+abbrev pub pair_of : Page → Pair
+pair_of p = paired p.sight.book (layout_of p.figures)
+
+-- the known list begins the history of the page, and the pair is its own
+pub record Knows (p : Page) (v : Notes) : Type 0 where
+  pub known : IsPrefix v.known p.sight.log
+  pub pair : IfSome v.pair (λ z. z ≡ pair_of p)
+
+-- the state is the fold of its history, which each seat knows a beginning of
+pub record IsPublished (r : Rules) (p : Page) (views : List Notes) : Type 0 where
+  pub sums : IsFoldOf r p.figures p.sight.log
+  pub known : (seat : ℕ) (v : Notes) → get_elem? views seat ≡ some v → Knows p v
+
+-- the whole history of the page is known afterwards
+pub record Entered (r : Rules) (v : Notes) (p : Page) (w : Notes) : Type 0 where
+  pub sums : IsFoldOf r p.figures p.sight.log
+  pub before : Knows p v
+  pub seat : w ≡ notes p.sight.log v.pair
+
+-- what an entry makes of a page
+abbrev pub turned : Rules → Page → Entry → Page
+turned r p e = record { figures = absorbed r p.figures e.message; sight = e.stamp }
+
+abbrev pub messages : List Entry → List Push
+messages es = map (λ (e : Entry). e.message) es
+
+-- each entry has the sight of one message more
+abbrev pub IsChain : Sight → List Entry → Type 0
+IsChain s [] = Unit {0}
+IsChain s (e ∷ es) = (e.stamp ≡ longer s e.message) × IsChain e.stamp es
+
+-- the sight, with a message that stands in the history alone
+abbrev pub late : Option Push → Sight → Sight
+late None s = s
+late (Some m) s = longer s m
+
+-- what stands in where a view has no reader, which is never so between its calls
+abbrev pub no_notes : Notes
+no_notes = record { known = []; pair = None }

@@ -1,0 +1,180 @@
+//! The history of a published pair. It exists in the proofs alone, but for its length.
+ghost use Rattle.std.specs.Prelude.{◌≡◌, ◌⊎◌, ◌+◌, ◌<◌, ◌≤◌, ◌∷◌, ◌++◌, [], length, IfSome, Some, None, MatchBool};
+ghost use mathlib.Core.List.{IsPrefix};
+ghost use Rattle.live_view.specs.History.{head_of};
+ghost use Rattle.live_view.specs.Sights.{longer};
+ghost use Rattle.live_view.specs.Fold.{most};
+
+use hash_rows::Push;
+use logbook::{Gain, Offer, Plain, Play, Rule, Seen, Start, Word};
+use std::marker::Model;
+
+/// The rule of the book.
+pub struct History;
+
+impl Rule<Push, u64> for History {
+    ghost use Rattle.std.specs.Prelude.{[]};
+    ghost use base.Fml.{ftrue};
+    ghost use Rattle.live_view.specs.History.{IsKept};
+
+    ghost holds = { λ cells log. IsKept cells log };
+
+    ghost first = { [] };
+
+    ghost hinted = { λ n log. Unit {0} };
+
+    ghost shows = { λ log. [] };
+
+    ghost keeps = { λ names log. ftrue };
+
+    ghost moves = { λ ask before after answer. Unit {0} };
+}
+
+/// Callers trade nothing.
+pub struct Nothing;
+
+impl Gain<Push, u64> for Nothing {
+    ghost use base.Fml.{ftrue};
+
+    ghost after = { λ names about answer. ftrue };
+}
+
+/// A step that adds a message.
+pub struct Add;
+
+impl Play<Push, u64> for Add {
+    ghost use Rattle.live_view.specs.History.{Adds};
+
+    ghost then = { Adds };
+}
+
+/// What a step asks for: the message.
+impl Plain<Push, Push, u64> for Add {
+    ghost use Rattle.std.specs.Prelude.{None};
+
+    ghost ask = { λ message. message };
+
+    ghost state = { λ message. None };
+}
+
+/// A beginning of the history that was seen. It has no bytes.
+#[derive(Drop)]
+pub struct Stamp {
+    seen: Seen<Push, u64, History>,
+}
+
+impl Model for Stamp {
+    ghost use Rattle.live_view.specs.Sights.{Sight};
+
+    ghost Value = { Sight };
+
+    ghost view = { λ s. record { book = s.seen.book; log = s.seen.log } };
+}
+
+impl Stamp {
+    /// A copy.
+    pub fn again(&self) -> Stamp
+        ensures { result ≡ self.now }
+    {
+        Stamp {
+            seen: self.seen.again(),
+        }
+    }
+
+    /// The shorter of two beginnings of one history begins the longer.
+    pub fn begins(&self, other: &Stamp)
+        requires book { other.now.book ≡ self.now.book }
+        requires shorter { length self.now.log ≤ length other.now.log }
+        ensures { IsPrefix self.now.log other.now.log }
+    {
+        let mut both = self.seen.again();
+        both.learn(&other.seen);
+    }
+}
+
+/// What the writer appends.
+#[derive(Drop)]
+pub struct Entry {
+    pub message: Push,
+    /// The history up to this message.
+    pub stamp: Stamp,
+}
+
+/// The word of the history, which is its length, and all that was seen.
+#[derive(Drop)]
+pub struct Clerk {
+    pub head: Word<Push, u64, History>,
+    pub stamp: Stamp,
+    pub count: u64,
+    /// A message that stands in the history, and was refused by the pair.
+    pub stuck: Option<Push>,
+    pub ghost head_is: { head ≡ head_of stamp.book },
+}
+
+impl Clerk {
+    pub fn open() -> Clerk
+        ensures { (result.stamp.log ≡ []) × (result.count ≡ 0) × (result.stuck ≡ None) }
+    {
+        let (seen, mut first, _second) = Seen::open(Start::alone(), 0, 0);
+        Clerk {
+            head: Word::tracked(0, &mut first),
+            stamp: Stamp { seen },
+            count: 0,
+            stuck: None,
+        }
+    }
+
+    /// Puts the message into the history, unless it stands there as the one that was refused.
+    pub fn ready(&mut self, message: Push) -> bool
+        requires count { self.old.count ≡ length self.old.stamp.log }
+        requires room { self.old.count < most }
+        ensures book { self.new.stamp.book ≡ self.old.stamp.book }
+        ensures count { (self.new.count ≡ length self.new.stamp.log) × (self.new.count < most) }
+        ensures ready { MatchBool result ((self.new.stuck ≡ Some message) × (((self.old.stuck ≡ Some message) × (self.new.stamp ≡ self.old.stamp)) ⊎ ((self.old.stuck ≡ None) × (self.new.stamp ≡ longer self.old.stamp message)))) (self.new ≡ self.old) }
+    {
+        if let Some(late) = self.stuck {
+            return late == message;
+        }
+        if self.count >= u64::MAX - 2 {
+            return false;
+        }
+        match extended(&self.head, &self.stamp, self.count, message) {
+            Some(stamp) => {
+                self.stamp = stamp;
+                self.count += 1;
+                self.stuck = Some(message);
+                true
+            }
+            None => false,
+        }
+    }
+}
+
+// The history with one message more. It is never refused, since nobody else has the word, but no clause says so.
+fn extended(
+    head: &Word<Push, u64, History>,
+    stamp: &Stamp,
+    count: u64,
+    message: Push,
+) -> Option<Stamp>
+    requires head { head.now ≡ head_of stamp.now.book }
+    requires count { count ≡ length stamp.now.log }
+    requires room { count < most }
+    ensures { IfSome result (λ s. s ≡ longer stamp.now message) }
+{
+    let mut seen = stamp.seen.again();
+    let mut offer: Offer<Push, u64, History, Nothing> = seen.plain::<Nothing, Push, Add>(&message);
+    let mut pen = seen.no_pen();
+    let found = head.compare_exchange::<Add, Nothing>(
+        count,
+        count + 1,
+        &mut seen,
+        &mut offer,
+        &mut pen,
+    );
+    if found == count {
+        Some(Stamp { seen })
+    } else {
+        None
+    }
+}

@@ -1,0 +1,119 @@
+//! What readers take: a state, and the history that it stands for.
+ghost use Rattle.std.specs.Prelude.{◌≡◌, ◌≤◌, length, IfOk};
+ghost use Rattle.hash_rows.specs.Rules.{AreValues};
+ghost use Rattle.hash_rows.specs.Shapes.{IsShape, size_of};
+ghost use Rattle.live_view.specs.Fold.{fresh_state};
+ghost use Rattle.live_view.specs.Rule.{turned};
+
+use crate::history::{Entry, Stamp};
+use crate::layout::Layout;
+use crate::tally::Tally;
+use flow_base::NoMemory;
+use hash_rows::{Cells, Kind, Shape};
+use left_right::Absorb;
+use listed::Listed;
+use packet_key::FlowKey;
+use std::alloc::{AllocError, Global};
+use std::marker::{Model, PhantomData};
+
+/// A state whose cells stand bare, and the history that it stands for.
+#[derive(Drop)]
+pub struct Published<K: Kind> {
+    shape: Shape,
+    cells: Cells,
+    tally: Tally,
+    stamp: Stamp,
+    kind: PhantomData<K>,
+}
+
+impl<K: Kind> Model for Published<K> {
+    ghost use Rattle.std.specs.Prelude.{◌≡◌, length};
+    ghost use Rattle.hash_rows.specs.Rules.{AreValues};
+    ghost use Rattle.hash_rows.specs.Shapes.{IsShape, size_of};
+    ghost use Rattle.live_view.specs.Sights.{Page};
+
+    ghost Value = { Page };
+
+    ghost view = { λ p. record { figures = record { table = record { shape = p.shape; cells = p.cells.items }; front = p.tally.front; upto = p.tally.upto; folded = p.tally.folded; heavy = p.tally.heavy }; sight = p.stamp } };
+
+    ghost invariant = { λ p. IsShape p.shape × (length p.cells.items ≡ size_of p.shape) × AreValues K.rules p.cells.items };
+}
+
+impl<K: Kind> Published<K> {
+    /// The state with no message.
+    pub fn new(alloc: Global, layout: &Layout, stamp: Stamp) -> Result<Published<K>, NoMemory>
+        requires shape { IsShape layout.now.shape }
+        requires heavy { (1 ≤ layout.now.heavy) × (layout.now.heavy ≤ 1024) }
+        ensures figures { IfOk result (λ page. page.figures ≡ fresh_state layout.now) }
+        ensures sight { IfOk result (λ page. page.sight ≡ stamp) }
+    {
+        let cells = Listed::filled(alloc, layout.shape.rows * layout.shape.columns, 0)?;
+        let tally = Tally::new(alloc, layout.workers, layout.heavy, layout.least)?;
+        Ok(Published {
+            shape: layout.shape,
+            cells,
+            tally,
+            stamp,
+            kind: PhantomData,
+        })
+    }
+
+    pub fn cells(&self) -> &[i64]
+        ensures cells { result.now ≡ self.now.figures.table.cells }
+        ensures size { length self.now.figures.table.cells ≡ size_of self.now.figures.table.shape }
+        ensures values { AreValues K.rules self.now.figures.table.cells }
+    {
+        self.cells.as_slice()
+    }
+
+    pub fn tally(&self) -> &Tally
+        ensures front { result.now.front ≡ self.now.figures.front }
+        ensures upto { result.now.upto ≡ self.now.figures.upto }
+        ensures folded { result.now.folded ≡ self.now.figures.folded }
+        ensures heavy { result.now.heavy ≡ self.now.figures.heavy }
+    {
+        &self.tally
+    }
+
+    /// What the cells say of the key.
+    pub fn estimate(&self, key: &FlowKey) -> i64
+        ensures { result ≡ K.rules.estimate self.now.figures.table.shape self.now.figures.table.cells key.now }
+    {
+        K::estimate(&self.shape, self.cells.as_slice(), key)
+    }
+
+    pub fn stamp(&self) -> &Stamp
+        ensures { result.now ≡ self.now.sight }
+    {
+        &self.stamp
+    }
+}
+
+impl<K: Kind> Absorb<Entry> for Published<K> {
+    type State = Published<K>;
+
+    ghost state = { λ p. p };
+
+    ghost applied = { turned K.rules };
+
+    ghost never_fails = { Unit {0} };
+
+    // The methods of a table can't be called here, since they ask for a kind that any thread has.
+    fn absorb_first(&mut self, operation: &Entry, _other: &Published<K>) -> Result<(), AllocError> {
+        let message = &operation.message;
+        self.stamp = operation.stamp.again();
+        if message.worker < self.tally.workers()
+            && message.cell < self.cells.len()
+            && K::is_value(message.amount)
+        {
+            let joined = K::join(*self.cells.get(message.cell), message.amount);
+            self.cells.set(message.cell, joined);
+            self.tally.count(message.worker, message.update);
+            if K::KEYED {
+                let estimate = K::estimate(&self.shape, self.cells.as_slice(), &message.key);
+                self.tally.note(&message.key, estimate);
+            }
+        }
+        Ok(())
+    }
+}

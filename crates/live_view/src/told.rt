@@ -1,0 +1,72 @@
+//! What a writer tells.
+ghost use Rattle.std.specs.Prelude.{◌≡◌, ◌⊎◌, length};
+ghost use mathlib.Core.List.{IsPrefix};
+
+use crate::history::Stamp;
+use std::marker::Model;
+
+/// The list that was published when it was made, and its length.
+#[derive(Drop)]
+pub struct Told {
+    stamp: Stamp,
+    folded: u64,
+}
+
+impl Model for Told {
+    ghost use Rattle.std.specs.Prelude.{◌≡◌, length};
+    ghost use Rattle.live_view.specs.Sights.{Sight};
+
+    ghost Value = { Sight };
+
+    ghost view = { λ t. t.stamp };
+
+    ghost invariant = { λ t. t.folded ≡ length t.stamp.log };
+}
+
+impl Told {
+    pub(crate) fn of(stamp: Stamp, folded: u64) -> Told
+        requires { folded ≡ length stamp.log }
+        ensures { result ≡ stamp }
+    {
+        Told { stamp, folded }
+    }
+
+    pub(crate) fn stamp(&self) -> &Stamp
+        ensures { result.now ≡ self.now }
+    {
+        &self.stamp
+    }
+
+    /// The length of the list.
+    pub fn folded(&self) -> u64
+        ensures { result ≡ length self.now.log }
+    {
+        self.folded
+    }
+
+    /// A copy.
+    pub fn again(&self) -> Told
+        ensures { result ≡ self.now }
+    {
+        Told {
+            stamp: self.stamp.again(),
+            folded: self.folded,
+        }
+    }
+
+    // Of two lists of one history the longer, which the other begins.
+    pub(crate) fn longer(&self, other: Told) -> Told
+        requires { other.book ≡ self.now.book }
+        ensures book { result.book ≡ self.now.book }
+        ensures this { IsPrefix self.now.log result.log }
+        ensures that { IsPrefix other.log result.log }
+        ensures one { (result.log ≡ self.now.log) ⊎ (result.log ≡ other.log) }
+    {
+        if self.folded < other.folded {
+            self.stamp.begins(&other.stamp);
+            return other;
+        }
+        other.stamp.begins(&self.stamp);
+        self.again()
+    }
+}

@@ -1,0 +1,29 @@
+//! The program octo.
+#![tactic(auto)]
+
+use flow_base::{Status, StdSink, StdSource};
+use octo_run::octo;
+use std::process::ExitCode;
+use std::{env, io};
+
+// The words after the program's name. Words that aren't UTF-8 are a faulty command line.
+fn words_of(rt: &HostRuntime) -> io::Result<Vec<String>> {
+    let mut words = Vec::new(rt.alloc());
+    for word in env::args(rt)?.skip(1) {
+        words.push(word)?;
+    }
+    Ok(words)
+}
+
+fn main(rt: HostRuntime) -> ExitCode {
+    let words = match words_of(&rt) {
+        Ok(words) => words,
+        Err(_) => return ExitCode::from(Status::Usage.code()),
+    };
+    let mut source = StdSource::new(rt.reader());
+    let mut out = StdSink::new(io::writer(&rt));
+    let standard_error = rt.stderr();
+    let mut err = StdSink::new(io::writer(&standard_error));
+    let status = octo(rt.alloc(), &words, &mut source, &mut out, &mut err);
+    ExitCode::from(status.code())
+}

@@ -1,0 +1,23 @@
+use Rattle.std.proofs.Common.{◌≡◌, ◌∙◌, sym, ap}
+use Rattle.std.specs.Prelude.{Result, Ok, Err}
+use Rattle.pcap_read.specs.declared.bad.Bad.{Bad}
+use Rattle.capture_load.specs.declared.capture.Capture.{Capture}
+use Rattle.capture_load.specs.declared.capture.LoadStop.{LoadStop}
+use Rattle.capture_load.specs.declared.capture.LoadStop.TheVariants.{Bad as BadStop}
+use Rattle.octo_run.proofs.Statuses.{same_bad}
+use Rattle.octo_run.proofs.run.attempt.Goals as goal
+
+pub returns-in-Err-ReadFault-clause-unrefused : goal.returns-in-Err-ReadFault-clause-unrefused
+returns-in-Err-ReadFault-clause-unrefused g c = λ is given rest told left frames bad. let f : LoadStop → Result Capture LoadStop = λ s. Err s in c.in-Err-ReadFault.ensures.unrefused (ap f c.in-Err-ReadFault.field-0-is) frames bad given rest told left
+
+pub returns-in-Err-Bad-clause-bad : goal.returns-in-Err-Bad-clause-bad
+returns-in-Err-Bad-clause-bad g c = λ bad is given rest told left.
+    let f : LoadStop → Result Capture LoadStop = λ s. Err s in
+    let same : c.in-Err-Bad.bad ≡ bad = sym c.in-Err-Bad.bad-is ∙ same_bad _ bad is in
+    c.in-Err-Bad.ensures.bad bad (ap f (c.in-Err-Bad.field-0-is ∙ ap (λ (b : Bad). BadStop b) same)) given rest told left
+
+pub returns-in-Err-write_report-clause-accepted_cut : goal.returns-in-Err-write_report-clause-accepted_cut
+returns-in-Err-write_report-clause-accepted_cut g c = λ is given rest told left bad. c.in-Ok.ensures.fine bad given rest told left
+
+pub returns-clause-accepted : goal.returns-clause-accepted
+returns-clause-accepted g c = λ given rest told left bad. c.in-Ok.ensures.fine bad given rest told left

@@ -1,0 +1,49 @@
+-- What a run does with the bytes that its source gives.
+use Rattle.std.specs.Prelude.{◌≡◌, ◌≢◌, ◌⊎◌, ℕ, ◌++◌, List, [], length, Option, Some}
+use Rattle.flow_base.specs.Flow.{grown, TookFront, Given}
+use Rattle.flow_base.specs.declared.status.Status.{Status}
+use Rattle.flow_base.specs.declared.status.Status.TheVariants.{Done, WriteFault}
+use Rattle.pcap_read.specs.Capture.{CaptureOf, RefusesNext, Outcome, Whole, Refused}
+use Rattle.pcap_read.specs.Records.{Framed}
+use Rattle.pcap_read.specs.declared.bad.Bad.{Bad}
+use Rattle.hash_rows.specs.declared.options.Options.{Options}
+use Rattle.words.specs.declared.command.Command.{Command}
+use Rattle.words.specs.declared.command.Command.TheVariants.{Run, Load}
+use Rattle.capture_load.specs.Generated.{generated}
+use Rattle.capture_load.specs.Loads.{record_limit, HoldsRefusal}
+use Rattle.capture_load.specs.Packets.{packets_of, tallies_of}
+use Rattle.octo_text.specs.declared.report.Report.{Report}
+use Rattle.octo_text.specs.ReportText.{report_text}
+use Rattle.reports.specs.ReportOf.{IsReport}
+
+-- the text is the report of these bytes by these options: of the capture that they are, its packets, and the one table
+-- that takes every packet
+pub record IsReportText (o : Options) (bytes text : List ℕ) : Type 0 where
+  pub frames : List Framed
+  pub cut : ℕ
+  pub whole : CaptureOf record_limit bytes (Whole frames cut)
+  pub report : Report
+  pub report_is : IsReport (packets_of o.amount frames) (length frames) (tallies_of frames) cut o report
+  pub text_is : text ≡ report_text report
+
+-- all bytes were given, and the sink took their report
+abbrev pub Reported : Options → Option (List ℕ) → Option (List ℕ) → List ℕ → List ℕ → Type 0
+Reported o before after given rest = (rest ≡ []) × (text : List ℕ) × IsReportText o given text × (after ≡ grown before text)
+
+-- all bytes were given, and the sink took a front of their report and not all
+abbrev pub CutShort : Options → Option (List ℕ) → Option (List ℕ) → List ℕ → List ℕ → Type 0
+CutShort o before after given rest = (rest ≡ []) × (text : List ℕ) × IsReportText o given text × TookFront before after text
+
+-- the bytes given hold no refusal
+abbrev pub IsAccepted : List ℕ → List ℕ → Type 0
+IsAccepted given rest = (bad : Bad) → HoldsRefusal given rest bad → ⊥
+
+-- nor do they before the end of input
+abbrev pub IsUnrefused : List ℕ → List ℕ → Type 0
+IsUnrefused given rest = (frames : List Framed) (bad : Bad) → RefusesNext record_limit given frames bad → ⊥
+
+-- the bytes that the command reads: whatever the source gives, or a front of the generated ones, and then the source is
+-- left as it was
+abbrev pub GivenFor : Command → Option (List ℕ) → Option (List ℕ) → (List ℕ → List ℕ → Type 0) → Type 0
+GivenFor (Run options) old new P = Given old new P
+GivenFor (Load records start options) old new P = (new ≡ old) × (given : List ℕ) × (rest : List ℕ) × (generated records start ≡ given ++ rest) × P given rest

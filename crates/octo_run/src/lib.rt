@@ -1,0 +1,12 @@
+//! A run of octo: from words and the bytes of a capture to a report, or to one line that says why
+//! there is none.
+#![tactic(auto)]
+
+mod fault;
+mod report;
+mod run;
+mod tell;
+
+pub use capture_load::{Capture, GenSource, LoadStop, load_capture};
+pub use run::{octo, octo_rounds};
+pub use words::{Command, WordStop, read_words};

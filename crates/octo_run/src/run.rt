@@ -1,0 +1,138 @@
+ghost use Rattle.std.specs.Prelude.{◌≡◌, ◌≢◌, ◌≤◌, ◌⊎◌, ℕ, List, [], OnOk, IsErr, IsErrOf, string_bytes, map};
+ghost use Rattle.flow_base.specs.Causes.{Rose};
+ghost use Rattle.flow_base.specs.Flow.{Given, behind};
+ghost use Rattle.hash_rows.specs.Lawful.{IsLawful};
+ghost use Rattle.capture_load.specs.Loads.{HoldsRefusal};
+ghost use Rattle.octo_run.specs.Faults.{TellsLine, fault_line, status_of, status_of_bad};
+ghost use Rattle.octo_run.specs.Runs.{CutShort, GivenFor, IsAccepted, IsUnrefused, Reported};
+ghost use Rattle.pcap_read.specs.declared.bad.Bad.{Bad};
+ghost use Rattle.octo_run.specs.declared.fault.Fault.{Fault};
+ghost use Rattle.words.specs.Options.{Gives, options_in};
+ghost use Rattle.words.specs.declared.command.Command.{Command};
+
+use crate::fault::Fault;
+use crate::report::report;
+use crate::tell::tell;
+use capture_load::{GenSource, LoadStop, load_capture};
+use flow_base::{Sink, Source, Status};
+use hash_rows::Options;
+use octo_text::write_report;
+use std::alloc::Global;
+use words::{Command, WordStop, read_words};
+
+/// Reads a capture, and writes its report. Where there is none, one line on `err` says why.
+pub fn octo_rounds<S: Source, T: Sink, E: Sink>(
+    alloc: Global,
+    options: &Options,
+    source: &mut S,
+    out: &mut T,
+    err: &mut E,
+) -> Status
+    requires { IsLawful options.now }
+    ensures done { result ≡ Status.Done → Given (S.left source.old) (S.left source.new) (Reported options.now (T.holds out.old) (T.holds out.new)) }
+    ensures read { result ≡ Status.ReadFault → Rose (S.faults source.old) (S.faults source.new) }
+    ensures unrefused { result ≡ Status.ReadFault → Given (S.left source.old) (S.left source.new) IsUnrefused }
+    ensures write { result ≡ Status.WriteFault → Rose (T.faults out.old) (T.faults out.new) }
+    ensures cut { result ≡ Status.WriteFault → Given (S.left source.old) (S.left source.new) (CutShort options.now (T.holds out.old) (T.holds out.new)) }
+    // A capture is refused exactly by what stands first in its bytes.
+    ensures bad { (result ≡ Status.BadCapture) ⊎ (result ≡ Status.TooMany) → (bad : Bad) × (result ≡ status_of_bad bad)
+        × Given (S.left source.old) (S.left source.new) (λ given rest. HoldsRefusal given rest bad)
+        × TellsLine (E.holds err.old) (E.holds err.new) (E.faults err.old) (E.faults err.new) (fault_line (Fault.Bad bad)) }
+    ensures accepted { (result ≡ Status.Done) ⊎ (result ≡ Status.WriteFault) → Given (S.left source.old) (S.left source.new) IsAccepted }
+    ensures told { result ≢ Status.Done → (fault : Fault) × (result ≡ status_of fault)
+        × TellsLine (E.holds err.old) (E.holds err.new) (E.faults err.old) (E.faults err.new) (fault_line fault) }
+    ensures quiet { result ≡ Status.Done → E.holds err.new ≡ E.holds err.old }
+    ensures untouched { result ≢ Status.Done → result ≢ Status.WriteFault → T.holds out.new ≡ T.holds out.old }
+    ensures front { (given : List ℕ) × (S.left source.old ≡ behind given (S.left source.new)) }
+    ensures others { (result ≢ Status.Usage) × (result ≢ Status.Differs) }
+{
+    match attempt(alloc, options, source, out) {
+        Ok(()) => Status::Done,
+        Err(fault) => tell(err, fault),
+    }
+}
+
+// The same without the line.
+fn attempt<S: Source, T: Sink>(
+    alloc: Global,
+    options: &Options,
+    source: &mut S,
+    out: &mut T,
+) -> Result<(), Fault>
+    requires { IsLawful options.now }
+    ensures done { OnOk result (Given (S.left source.old) (S.left source.new) (Reported options.now (T.holds out.old) (T.holds out.new))) }
+    ensures read { IsErrOf result Fault.ReadFault → Rose (S.faults source.old) (S.faults source.new) }
+    ensures unrefused { IsErrOf result Fault.ReadFault → Given (S.left source.old) (S.left source.new) IsUnrefused }
+    ensures write { IsErrOf result Fault.WriteFault → Rose (T.faults out.old) (T.faults out.new) }
+    ensures cut { IsErrOf result Fault.WriteFault → Given (S.left source.old) (S.left source.new) (CutShort options.now (T.holds out.old) (T.holds out.new)) }
+    ensures bad { (bad : Bad) → IsErrOf result (Fault.Bad bad) → Given (S.left source.old) (S.left source.new) (λ given rest. HoldsRefusal given rest bad) }
+    ensures accepted { OnOk result (Given (S.left source.old) (S.left source.new) IsAccepted) }
+    ensures accepted_cut { IsErrOf result Fault.WriteFault → Given (S.left source.old) (S.left source.new) IsAccepted }
+    ensures untouched { IsErr result → (IsErrOf result Fault.WriteFault → ⊥) → T.holds out.new ≡ T.holds out.old }
+    ensures front { (given : List ℕ) × (S.left source.old ≡ behind given (S.left source.new)) }
+    ensures usage { IsErrOf result Fault.Usage → ⊥ }
+{
+    let capture = match load_capture(alloc, source, options.amount) {
+        Ok(capture) => capture,
+        Err(LoadStop::ReadFault) => return Err(Fault::ReadFault),
+        Err(LoadStop::Bad(bad)) => return Err(Fault::Bad(bad)),
+        Err(LoadStop::NoMemory) => return Err(Fault::NoMemory),
+    };
+    match report(alloc, &capture, options) {
+        Err(_) => Err(Fault::NoMemory),
+        Ok(report) => match write_report(out, &report) {
+            Err(_) => Err(Fault::WriteFault),
+            Ok(()) => Ok(()),
+        },
+    }
+}
+
+/// Does all that the program does: `words` are those after the program's name. With `load` the
+/// bytes are generated, and nothing of the source is read.
+pub fn octo<S: Source, T: Sink, E: Sink>(
+    alloc: Global,
+    words: &[String],
+    source: &mut S,
+    out: &mut T,
+    err: &mut E,
+) -> Status
+    // Usage, exactly where the words aren't in the grammar. Nothing is read.
+    ensures usage { result ≡ Status.Usage → (command : Command) → Gives (map string_bytes words.now) command → ⊥ }
+    ensures grammar { ((command : Command) → Gives (map string_bytes words.now) command → ⊥) → (result ≡ Status.Usage) ⊎ (result ≡ Status.NoMemory) }
+    ensures unread { result ≡ Status.Usage → (S.left source.new ≡ S.left source.old) × (T.holds out.new ≡ T.holds out.old) }
+    ensures done { result ≡ Status.Done → (command : Command) → Gives (map string_bytes words.now) command
+        → GivenFor command (S.left source.old) (S.left source.new) (Reported (options_in command) (T.holds out.old) (T.holds out.new)) }
+    ensures read { result ≡ Status.ReadFault → Rose (S.faults source.old) (S.faults source.new) }
+    ensures unrefused { result ≡ Status.ReadFault → Given (S.left source.old) (S.left source.new) IsUnrefused }
+    ensures write { result ≡ Status.WriteFault → Rose (T.faults out.old) (T.faults out.new) }
+    ensures cut { result ≡ Status.WriteFault → (command : Command) → Gives (map string_bytes words.now) command
+        → GivenFor command (S.left source.old) (S.left source.new) (CutShort (options_in command) (T.holds out.old) (T.holds out.new)) }
+    // A capture is refused exactly by what stands first in its bytes.
+    ensures bad { (result ≡ Status.BadCapture) ⊎ (result ≡ Status.TooMany) → (command : Command) → Gives (map string_bytes words.now) command
+        → (bad : Bad) × (result ≡ status_of_bad bad)
+        × GivenFor command (S.left source.old) (S.left source.new) (λ given rest. HoldsRefusal given rest bad)
+        × TellsLine (E.holds err.old) (E.holds err.new) (E.faults err.old) (E.faults err.new) (fault_line (Fault.Bad bad)) }
+    ensures accepted { (result ≡ Status.Done) ⊎ (result ≡ Status.WriteFault) → (command : Command) → Gives (map string_bytes words.now) command
+        → GivenFor command (S.left source.old) (S.left source.new) IsAccepted }
+    ensures told { result ≢ Status.Done → (fault : Fault) × (result ≡ status_of fault)
+        × TellsLine (E.holds err.old) (E.holds err.new) (E.faults err.old) (E.faults err.new) (fault_line fault) }
+    ensures quiet { result ≡ Status.Done → E.holds err.new ≡ E.holds err.old }
+    ensures untouched { result ≢ Status.Done → result ≢ Status.WriteFault → T.holds out.new ≡ T.holds out.old }
+    ensures never { result ≢ Status.Differs }
+{
+    match read_words(alloc, words) {
+        Err(WordStop::Usage) => tell(err, Fault::Usage),
+        Err(WordStop::NoMemory) => tell(err, Fault::NoMemory),
+        Ok(Command::Run(options)) => octo_rounds(alloc, &options, source, out, err),
+        Ok(
+            Command::Load {
+                records,
+                start,
+                options,
+            },
+        ) => {
+            let mut generated = GenSource::new(records, start);
+            octo_rounds(alloc, &options, &mut generated, out, err)
+        }
+    }
+}

@@ -1,0 +1,94 @@
+ghost use Rattle.std.specs.Prelude.{◌≡◌, ◌<◌, ◌≤◌, ◌+◌, ◌++◌, length};
+ghost use Rattle.std.specs.Char.{digit_char};
+ghost use Rattle.octo_run.specs.Faults.{TellsLine, bad_text, fault_line, fault_text, hex8, status_of};
+
+use crate::fault::Fault;
+use flow_base::{Sink, Status};
+use octo_text::Line;
+use pcap_read::Bad;
+
+/// Writes the fault's line, and answers its status. A fault of the sink is ignored.
+#[tactic(auto, unfolding(crate::specs::Faults::fault_line))]
+pub fn tell<E: Sink>(err: &mut E, fault: Fault) -> Status
+    ensures status { result ≡ status_of fault }
+    ensures line { TellsLine (E.holds err.old) (E.holds err.new) (E.faults err.old) (E.faults err.new) (fault_line fault) }
+    ensures later { E.faults err.old ≤ E.faults err.new }
+{
+    let mut line = Line::new();
+    put_fault(&mut line, fault);
+    let _ = line.send(err);
+    fault.status()
+}
+
+#[tactic(auto, unfolding(crate::specs::Faults::fault_text))]
+fn put_fault(line: &mut Line, fault: Fault)
+    requires { length line.old ≤ 0 }
+    ensures text { line.new ≡ line.old ++ fault_text fault }
+    ensures room { length line.new ≤ 200 }
+{
+    match fault {
+        Fault::Usage => line.text(b"octo: usage"),
+        Fault::ReadFault => line.text(b"octo: read fault"),
+        Fault::WriteFault => line.text(b"octo: write fault"),
+        Fault::Bad(bad) => put_bad(line, bad),
+        Fault::NoMemory => line.text(b"octo: no memory"),
+    }
+}
+
+#[tactic(auto, unfolding(crate::specs::Faults::bad_text))]
+fn put_bad(line: &mut Line, bad: Bad)
+    requires { length line.old ≤ 0 }
+    ensures text { line.new ≡ line.old ++ bad_text bad }
+    ensures room { length line.new ≤ 200 }
+{
+    match bad {
+        Bad::ShortHeader { len } => line.named(b"octo: bad capture 1 length ", u64::from(len)),
+        Bad::UnknownMagic { magic } => {
+            line.text(b"octo: bad capture 2 magic ");
+            put_hex(line, magic);
+        }
+        Bad::PcapNg => line.text(b"octo: bad capture 3 pcapng"),
+        Bad::BadVersion { major, minor } => {
+            line.named(b"octo: bad capture 4 version ", u64::from(major));
+            line.named(b".", u64::from(minor));
+        }
+        Bad::NotEthernet { link } => line.named(b"octo: bad capture 5 link ", u64::from(link)),
+        Bad::TooLong { offset, length } => {
+            line.named(b"octo: bad capture 6 offset ", offset);
+            line.named(b" length ", u64::from(length));
+        }
+        Bad::TooMany => line.text(b"octo: too many records"),
+    }
+}
+
+// A number in 8 lower-case hexadecimal digits.
+#[tactic(auto, unfolding(crate::specs::Faults::hex8))]
+fn put_hex(line: &mut Line, number: u32)
+    requires { length line.old + 8 ≤ 1024 }
+    ensures text { line.new ≡ line.old ++ hex8 number }
+    ensures room { length line.new ≤ length line.old + 8 }
+{
+    let digits = [
+        hex_digit(number / 0x10000000 % 16),
+        hex_digit(number / 0x1000000 % 16),
+        hex_digit(number / 0x100000 % 16),
+        hex_digit(number / 0x10000 % 16),
+        hex_digit(number / 0x1000 % 16),
+        hex_digit(number / 0x100 % 16),
+        hex_digit(number / 0x10 % 16),
+        hex_digit(number % 16),
+    ];
+    line.text(&digits);
+}
+
+fn hex_digit(digit: u32) -> u8
+    requires { digit < 16 }
+    ensures { result ≡ digit_char digit }
+{
+    let digit = digit as u8;
+    if digit < 10 {
+        b'0' + digit
+    } else {
+        b'a' + (digit - 10)
+    }
+}

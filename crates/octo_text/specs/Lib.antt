@@ -1,0 +1,5 @@
+pub mod Lines
+pub mod ReportText
+pub mod Runs
+pub mod Content
+pub mod JournalText

@@ -1,0 +1,62 @@
+ghost use Rattle.std.specs.Prelude.{◌≡◌, ◌+◌, ◌*◌, ◌<◌, ◌≤◌, ◌++◌, length, map, codes, All};
+ghost use Rattle.std.specs.List.{flat_map};
+ghost use Rattle.flow_base.specs.Causes.{HasCause};
+ghost use Rattle.flow_base.specs.Writing.{Writes};
+ghost use Rattle.octo_text.specs.Content.{parts_of, FitsLine};
+ghost use Rattle.octo_text.specs.JournalText.{answer_line, spaced, spaced_signed};
+
+use crate::line::Line;
+use flow_base::{Failed, Sink};
+use hash_rows::Answer;
+
+// Adds the numbers, each behind a space.
+fn put_numbers(line: &mut Line, numbers: &[u64])
+    requires { length line.old + 21 * length numbers.now ≤ 1024 }
+    ensures text { line.new ≡ line.old ++ flat_map spaced numbers.now }
+    ensures room { length line.new ≤ length line.old + 21 * length numbers.now }
+{
+    for number in numbers {
+        line.named(b" ", *number);
+    }
+}
+
+fn put_estimates(line: &mut Line, estimates: &[i64])
+    requires { length line.old + 21 * length estimates.now ≤ 1024 }
+    ensures text { line.new ≡ line.old ++ flat_map spaced_signed estimates.now }
+    ensures room { length line.new ≤ length line.old + 21 * length estimates.now }
+{
+    for estimate in estimates {
+        line.text(b" ");
+        line.signed(*estimate);
+    }
+}
+
+#[tactic(auto, unfolding(crate::specs::JournalText::answer_line, crate::specs::Content::parts_of))]
+fn write_answer<T: Sink>(out: &mut T, answer: &Answer) -> Result<(), Failed>
+    requires { FitsLine answer.now }
+    ensures writes { Writes (T.holds out.old) (T.holds out.new) (answer_line (parts_of answer.now)) result }
+    ensures cause { HasCause (T.faults out.old) (T.faults out.new) result }
+{
+    let mut line = Line::new();
+    line.named(b"answer ", u64::from(answer.reader));
+    line.named(b" ", u64::from(answer.number));
+    line.named(b" folded ", answer.folded);
+    line.text(b" front");
+    put_numbers(&mut line, answer.front.as_slice());
+    line.text(b" shown");
+    put_estimates(&mut line, answer.shown.as_slice());
+    line.send(out)
+}
+
+/// Writes a line for each answer.
+pub(crate) fn write_answers<T: Sink>(out: &mut T, answers: &[Answer]) -> Result<(), Failed>
+    requires { All FitsLine answers.now }
+    ensures writes { Writes (T.holds out.old) (T.holds out.new)
+        (flat_map answer_line (map parts_of answers.now)) result }
+    ensures cause { HasCause (T.faults out.old) (T.faults out.new) result }
+{
+    for answer in answers {
+        write_answer(out, answer)?;
+    }
+    Ok(())
+}

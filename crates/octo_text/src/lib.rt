@@ -1,0 +1,20 @@
+//! The texts of the report and of the journal.
+#![tactic(auto)]
+
+mod answers;
+mod choices;
+mod journal;
+mod laws;
+mod line;
+mod lines;
+mod report;
+mod runs;
+mod workers;
+
+pub use journal::{Journal, write_journal};
+pub use laws::maximal_runs;
+pub use line::Line;
+pub use report::{Report, write_report};
+
+#[cfg(test)]
+mod tests;

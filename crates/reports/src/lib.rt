@@ -1,0 +1,12 @@
+//! The table that takes all packets of a capture, and the report of it.
+#![tactic(auto)]
+
+mod build;
+mod findings;
+mod one_table;
+#[cfg(test)]
+mod tests;
+mod totals;
+
+pub use build::report_of;
+pub use one_table::sequential;
