@@ -81,6 +81,9 @@ StandsFor stands r v events = IsCoreAt stands r v (lag_run (terms_of r v.limits)
 pub record Steps {Held : Type 0} (stands : Held → ℤ → ℤ → Type 0) (r : Rules) (old new : Core Held) (e : Event) (reply : Reply) : Type 0 where
   pub limits : new.limits ≡ old.limits
   pub readers : length new.seen ≡ length old.seen
+  pub same_shape : new.shape ≡ old.shape
+  pub limit : new.heavy.limit ≡ old.heavy.limit
+  pub least : new.heavy.least ≡ old.heavy.least
   pub step : (s : State) → IsCoreAt stands r old s
       → IsCoreAt stands r new (lag_step (terms_of r old.limits) s e).0 × (reply ≡ (lag_step (terms_of r old.limits) s e).1)
 

@@ -123,6 +123,8 @@ impl<K: Kind> Lag<K> {
         requires { IsWithin (workers_of self.old) (length self.old.seen) event }
         ensures limits { self.new.limits ≡ self.old.limits }
         ensures readers { length self.new.seen ≡ length self.old.seen }
+        ensures shape { self.new.shape ≡ self.old.shape }
+        ensures heavy { (self.new.heavy.limit ≡ self.old.heavy.limit) × (self.new.heavy.least ≡ self.old.heavy.least) }
         ensures stands { (events : List Event) → StandsFor K.stands K.rules self.old events →
             StandsFor K.stands K.rules self.new (events ++ event ∷ []) ×
             (result ≡ reply_to (terms_of K.rules self.old.limits) (length self.old.seen) events event) }
