@@ -61,6 +61,9 @@ module _ {H : Type 0} (stands : H → ℤ → ℤ → Type 0) (r : Rules) (v : C
   update_steps q lane' reply same_held works = record {
     limits = refl;
     readers = refl;
+    same_shape = refl;
+    limit = refl;
+    least = refl;
     step = λ s h.
         let t = terms_of r v.limits in
         let x = worker_in s w in
@@ -126,6 +129,9 @@ module _ {H : Type 0} (stands : H → ℤ → ℤ → Type 0) (r : Rules) (v : C
   take_none none = record {
     limits = refl;
     readers = refl;
+    same_shape = refl;
+    limit = refl;
+    least = refl;
     step = λ s h.
         let x = worker_in s w in
         let its = h.each w p lane sketch_at lane_at in
@@ -274,6 +280,9 @@ module _ {H : Type 0} (stands : H → ℤ → ℤ → Type 0) (r : Rules) (v : C
     take_one = record {
       limits = refl;
       readers = refl;
+      same_shape = refl;
+      limit = (note_leaves r v.shape (with_message r.join v.fold m).cells v.heavy m).limit;
+      least = (note_leaves r v.shape (with_message r.join v.fold m).cells v.heavy m).least;
       step = λ s h.
           let x = worker_in s w in
           let oldest = is_oldest s h in

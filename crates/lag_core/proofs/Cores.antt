@@ -42,6 +42,9 @@ module _ {H : Type 0} (stands : H → ℤ → ℤ → Type 0) (r : Rules) (v : C
   publish_steps new is = subst (λ x. Steps stands r v x Publish Published) (sym is) (record {
     limits = refl;
     readers = refl;
+    same_shape = refl;
+    limit = refl;
+    least = refl;
     step = λ s h. (
       record {
         shape = h.shape;
@@ -74,6 +77,9 @@ module _ {H : Type 0} (stands : H → ℤ → ℤ → Type 0) (r : Rules) (v : C
   ask_steps q new below is = subst (λ x. Steps stands r v x (Ask q) Answered) (sym is) (record {
     limits = refl;
     readers = length-set v.seen q v.shown.front;
+    same_shape = refl;
+    limit = refl;
+    least = refl;
     step = λ s h. (
       record {
         shape = h.shape;

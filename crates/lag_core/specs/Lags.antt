@@ -1,5 +1,5 @@
 -- What a running core stands for.
-use Rattle.std.specs.Prelude.{◌≡◌, ◌<◌, ◌≤◌, ℕ, ℤ, List, [], All, Some, length, take, min, true, slice_get, slice_index_or, if◌then◌else◌}
+use Rattle.std.specs.Prelude.{◌≡◌, ◌<◌, ◌≤◌, ℕ, ℤ, List, [], All, Some, length, take, min, true, slice_get, slice_index_or, map, if◌then◌else◌}
 use Rattle.hash_rows.specs.declared.shape.Push.{Push}
 use Rattle.hash_rows.specs.declared.shape.Shape.{Shape}
 use Rattle.hash_rows.specs.Rules.{Rules}
@@ -81,5 +81,20 @@ StandsFor stands r v events = IsCoreAt stands r v (lag_run (terms_of r v.limits)
 pub record Steps {Held : Type 0} (stands : Held → ℤ → ℤ → Type 0) (r : Rules) (old new : Core Held) (e : Event) (reply : Reply) : Type 0 where
   pub limits : new.limits ≡ old.limits
   pub readers : length new.seen ≡ length old.seen
+  pub same_shape : new.shape ≡ old.shape
+  pub limit : new.heavy.limit ≡ old.heavy.limit
+  pub least : new.heavy.least ≡ old.heavy.least
   pub step : (s : State) → IsCoreAt stands r old s
       → IsCoreAt stands r new (lag_step (terms_of r old.limits) s e).0 × (reply ≡ (lag_step (terms_of r old.limits) s e).1)
+
+-- the state after these events
+abbrev pub state_after : {Held : Type 0} → Rules → Core Held → List Event → State
+state_after r v events = lag_run (terms_of r v.limits) (length v.seen) events
+
+-- the messages that are shown
+abbrev pub shown_messages : State → List Push
+shown_messages s = take s.shown s.folded
+
+-- the messages of each worker
+abbrev pub sent_by_each : State → List (List Push)
+sent_by_each s = map (λ x. x.sent) s.workers

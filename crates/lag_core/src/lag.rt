@@ -25,20 +25,20 @@ use std::marker::Model;
 /// and two tables, and no list of messages.
 #[derive(Drop)]
 pub struct Lag<K: Kind> {
-    shape: Shape,
-    threshold: u64,
-    capacity: u32,
-    full: Full,
-    updates: UpdateRows,
-    sketches: Vec<Private<K>>,
-    lanes: Vec<Lane>,
-    fold: Sight,
-    shown: Sight,
-    heavy: Heavy,
+    pub(crate) shape: Shape,
+    pub(crate) threshold: u64,
+    pub(crate) capacity: u32,
+    pub(crate) full: Full,
+    pub(crate) updates: UpdateRows,
+    pub(crate) sketches: Vec<Private<K>>,
+    pub(crate) lanes: Vec<Lane>,
+    pub(crate) fold: Sight,
+    pub(crate) shown: Sight,
+    pub(crate) heavy: Heavy,
     // How many of the heavy keys are shown, and how many were missed until then.
-    live: u32,
-    missed: u64,
-    seen: Vec<Counts>,
+    pub(crate) live: u32,
+    pub(crate) missed: u64,
+    pub(crate) seen: Vec<Counts>,
 }
 
 impl<K: Kind> Model for Lag<K> {
@@ -68,7 +68,8 @@ impl<K: Kind> Lag<K> {
     ghost use Rattle.push_history.specs.declared.event.Event.TheVariants.{Update, Take, Publish, Ask};
     ghost use Rattle.push_history.specs.LagRun.{reply_to};
     ghost use Rattle.lag_core.specs.Workers.{terms_of};
-    ghost use Rattle.lag_core.specs.Lags.{StandsFor, Steps, IsWithin, workers_of};
+    ghost use Rattle.lag_core.specs.Lags.{StandsFor, Steps, IsWithin, state_after, workers_of};
+    ghost use Rattle.lag_core.specs.Laws.{Conserves, IsLawful};
 
     /// A run in which nothing has happened: a worker for each list of updates, lanes of so many
     /// messages, a live table of `heavy` keys whose estimate is at least `least`, and so many readers.
@@ -122,9 +123,15 @@ impl<K: Kind> Lag<K> {
         requires { IsWithin (workers_of self.old) (length self.old.seen) event }
         ensures limits { self.new.limits ≡ self.old.limits }
         ensures readers { length self.new.seen ≡ length self.old.seen }
+        ensures shape { self.new.shape ≡ self.old.shape }
+        ensures heavy { (self.new.heavy.limit ≡ self.old.heavy.limit) × (self.new.heavy.least ≡ self.old.heavy.least) }
         ensures stands { (events : List Event) → StandsFor K.stands K.rules self.old events →
             StandsFor K.stands K.rules self.new (events ++ event ∷ []) ×
             (result ≡ reply_to (terms_of K.rules self.old.limits) (length self.old.seen) events event) }
+        ensures lawful { (events : List Event) → StandsFor K.stands K.rules self.new events →
+            IsLawful (terms_of K.rules self.new.limits) (state_after K.rules self.new events) }
+        ensures conserves { (events : List Event) → StandsFor K.stands K.rules self.new events →
+            Conserves (terms_of K.rules self.new.limits) (state_after K.rules self.new events) }
     {
         self.run(event)
     }

@@ -4,6 +4,7 @@
 
 mod lag;
 mod lane;
+mod readings;
 mod sight;
 mod worker;
 

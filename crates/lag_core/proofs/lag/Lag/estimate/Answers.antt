@@ -1,0 +1,44 @@
+use Rattle.std.proofs.Common.{rules, ◌≡◌, ◌∙◌, ◌<◌, ◌≤◌, ◌-◌, ℕ, ℤ, Bool, pos, true, List, [], sym, ap, subst, length, get_or, slice_get, Some, take, map, arith, w64, to_z, of_z}
+use Rattle.std.proofs.lemmas.Option.{get_or_from_slice_get}
+use Rattle.std.proofs.lemmas.List.Elements.{All-take}
+use Rattle.listed.specs.Listed.{Listed}
+use Rattle.hash_rows.specs.declared.shape.Update.{Update as Entry}
+use Rattle.hash_rows.specs.Rules.{AreValues}
+use Rattle.hash_rows.specs.Shapes.{size_of}
+use Rattle.push_history.specs.declared.event.Event.{Event}
+use Rattle.push_history.specs.Front.{front_of, uptos_of}
+use Rattle.push_history.specs.LagRun.{updates_by, worker_in}
+use Rattle.push_history.specs.Pushes.{is_refused}
+use Rattle.push_history.specs.Residue.{residue}
+use Rattle.push_history.specs.Shown.{shown_of, shown_cells}
+use Rattle.lag_core.specs.declared.lag.Lag.TheView.{view}
+use Rattle.lag_core.specs.Lags.{Core, StandsFor, sent_by_each, shown_messages, state_after, workers_of}
+use Rattle.lag_core.specs.Workers.{terms_of}
+use Rattle.lag_core.proofs.Reading.{cell_is, cells_are, queued_is, residue_first}
+use Rattle.lag_core.proofs.Sizes.{cells_length, front_length, upto_length, cells_values, map_at, map_length, read_at, some_at, seen_length}
+use Rattle.lag_core.proofs.lag.Lag.estimate.Goals as goal
+
+pub estimate-requires-clause-cells : goal.estimate-requires-clause-cells
+estimate-requires-clause-cells g c =
+    let r = g.K.Kind.rules in
+    let V : Core g.row.K-Held.Denot = view g.row.K.Denot g.row.K-Held.Denot g.K.Kind c.self.inside in
+    let h = c.self.invariant.1 in
+    ap (λ (l : List ℤ). length l) c.cells.ensures ∙ cells_length r V.shape (workers_of V) V.shown _ h.shown
+
+pub estimate-requires-clause-values : goal.estimate-requires-clause-values
+estimate-requires-clause-values g c =
+    let r = g.K.Kind.rules in
+    let V : Core g.row.K-Held.Denot = view g.row.K.Denot g.row.K-Held.Denot g.K.Kind c.self.inside in
+    let h = c.self.invariant.1 in
+    subst (λ (l : List ℤ). AreValues r l) (sym c.cells.ensures)
+    (cells_values r (g.met.K.Kind g.world.𝓛 g.world.𝓜 g.world.𝓡 ((λ x y. y), (λ x. x), (λ x. x), (λ x. x))).laws V.shape (workers_of V) V.shown _ h.shown (All-take (λ m. r.is_value m.amount ≡ true) c.self.invariant.0.shown c.self.invariant.0.folded h.amounts))
+
+pub returns : goal.returns
+returns g c =
+    let r = g.K.Kind.rules in
+    let V : Core g.row.K-Held.Denot = view g.row.K.Denot g.row.K-Held.Denot g.K.Kind c.self.inside in
+    let h = c.self.invariant.1 in
+    let exact : to_z w64 (of_z w64 c.estimate.result) ≡ c.estimate.result = search rules in
+    subst (λ (o : Core g.row.K-Held.Denot). (events : List Event) → StandsFor g.K.Kind.stands r o events
+    → to_z w64 (of_z w64 c.estimate.result) ≡ r.estimate o.shape (shown_cells r o.shape (sent_by_each (state_after r o events)) (front_of (workers_of o) (shown_messages (state_after r o events)))) c.args.key.now) c.self.view_is
+    (λ events at. exact ∙ c.estimate.ensures ∙ ap (λ (l : List ℤ). r.estimate V.shape l c.args.key.now) (c.cells.ensures ∙ cells_are g.K.Kind.stands r (g.met.K.Kind g.world.𝓛 g.world.𝓜 g.world.𝓡 ((λ x y. y), (λ x. x), (λ x. x), (λ x. x))).laws V (state_after r V events) at))

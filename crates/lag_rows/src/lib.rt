@@ -1,0 +1,5 @@
+//! Worked rows of the pure core.
+#![tactic(auto)]
+
+#[cfg(test)]
+mod tests;
