@@ -1,8 +1,9 @@
 //! The program octo.
 #![tactic(auto)]
 
-use flow_base::{Status, StdSink, StdSource};
-use octo_run::octo;
+use flow_base::{StdSink, StdSource};
+use octo_run::{Fault, octo, tell};
+use std::io::ErrorKind;
 use std::process::ExitCode;
 use std::{env, io};
 
@@ -16,14 +17,16 @@ fn words_of(rt: &HostRuntime) -> io::Result<Vec<String>> {
 }
 
 fn main(rt: HostRuntime) -> ExitCode {
-    let words = match words_of(&rt) {
-        Ok(words) => words,
-        Err(_) => return ExitCode::from(Status::Usage.code()),
-    };
-    let mut source = StdSource::new(rt.reader());
-    let mut out = StdSink::new(io::writer(&rt));
     let standard_error = rt.stderr();
     let mut err = StdSink::new(io::writer(&standard_error));
-    let status = octo(rt.alloc(), &words, &mut source, &mut out, &mut err);
+    let status = match words_of(&rt) {
+        Ok(words) => {
+            let mut source = StdSource::new(rt.reader());
+            let mut out = StdSink::new(io::writer(&rt));
+            octo(rt.alloc(), &words, &mut source, &mut out, &mut err)
+        }
+        Err(error) if error.kind() == ErrorKind::OutOfMemory => tell(&mut err, Fault::NoMemory),
+        Err(_) => tell(&mut err, Fault::Usage),
+    };
     ExitCode::from(status.code())
 }

@@ -6,8 +6,8 @@ use Rattle.flow_base.specs.declared.status.Status.TheVariants.{Done, Usage, Read
 use Rattle.pcap_read.specs.declared.bad.Bad.{Bad}
 use Rattle.pcap_read.specs.declared.bad.Bad.TheVariants.{ShortHeader, UnknownMagic, PcapNg, BadVersion, NotEthernet, TooLong}
 use Rattle.pcap_read.specs.declared.bad.Bad.TheVariants.{TooMany as TooManyRecords}
-use Rattle.octo_run.specs.declared.fault.Fault.{Fault}
-use Rattle.octo_run.specs.declared.fault.Fault.TheVariants.{Usage as UsageFault, ReadFault as SourceFault, WriteFault as SinkFault, Bad as BadFault, NoMemory as MemoryFault}
+use Rattle.octo_run.specs.declared.faults.Fault.{Fault}
+use Rattle.octo_run.specs.declared.faults.Fault.TheVariants.{Usage as UsageFault, ReadFault as SourceFault, WriteFault as SinkFault, Bad as BadFault, NoMemory as MemoryFault}
 use Rattle.octo_run.specs.Faults.{status_of, status_of_bad}
 
 -- a refusal's status is one of two

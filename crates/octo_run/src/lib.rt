@@ -2,11 +2,13 @@
 //! there is none.
 #![tactic(auto)]
 
-mod fault;
+mod faults;
+mod lines;
 mod report;
 mod run;
-mod tell;
 
 pub use capture_load::{Capture, GenSource, LoadStop, load_capture};
+pub use faults::Fault;
+pub use lines::tell;
 pub use run::{octo, octo_rounds};
 pub use words::{Command, WordStop, read_words};

@@ -6,13 +6,13 @@ ghost use Rattle.capture_load.specs.Loads.{HoldsRefusal};
 ghost use Rattle.octo_run.specs.Faults.{TellsLine, fault_line, status_of, status_of_bad};
 ghost use Rattle.octo_run.specs.Runs.{CutShort, GivenFor, IsAccepted, IsUnrefused, Reported};
 ghost use Rattle.pcap_read.specs.declared.bad.Bad.{Bad};
-ghost use Rattle.octo_run.specs.declared.fault.Fault.{Fault};
+ghost use Rattle.octo_run.specs.declared.faults.Fault.{Fault};
 ghost use Rattle.words.specs.Options.{Gives, options_in};
 ghost use Rattle.words.specs.declared.command.Command.{Command};
 
-use crate::fault::Fault;
+use crate::faults::Fault;
+use crate::lines::tell;
 use crate::report::report;
-use crate::tell::tell;
 use capture_load::{GenSource, LoadStop, load_capture};
 use flow_base::{Sink, Source, Status};
 use hash_rows::Options;

@@ -2,7 +2,7 @@ use Rattle.std.proofs.Common.{◌≡◌, ◌∙◌, refl, sym, ap, subst, ◌⊎
 use Rattle.std.specs.Prelude.{Result, Ok, Err}
 use Rattle.flow_base.specs.declared.status.Status.{Status}
 use Rattle.octo_run.specs.Faults.{TellsLine, fault_line, status_of}
-use Rattle.octo_run.specs.declared.fault.Fault.{Fault}
+use Rattle.octo_run.specs.declared.faults.Fault.{Fault}
 use Rattle.octo_run.proofs.Statuses.{read_fault, write_fault, never_done, bad_fault, fails_by}
 use Rattle.octo_run.proofs.run.octo_rounds.Goals as goal
 

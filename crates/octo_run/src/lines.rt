@@ -2,7 +2,7 @@ ghost use Rattle.std.specs.Prelude.{◌≡◌, ◌<◌, ◌≤◌, ◌+◌, ◌+
 ghost use Rattle.std.specs.Char.{digit_char};
 ghost use Rattle.octo_run.specs.Faults.{TellsLine, bad_text, fault_line, fault_text, hex8, status_of};
 
-use crate::fault::Fault;
+use crate::faults::Fault;
 use flow_base::{Sink, Status};
 use octo_text::Line;
 use pcap_read::Bad;
