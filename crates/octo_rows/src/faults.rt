@@ -144,3 +144,29 @@ fn a_failing_write_leaves_whole_lines(rt: HostRuntime) -> Result<(), Fail> {
     assert!(rt; cut.err.held().is_empty());
     Ok(())
 }
+
+#[test]
+fn a_small_output_holds_a_front_of_the_report(rt: HostRuntime) -> Result<(), Fail> {
+    let alloc = rt.alloc();
+    let parts = [HL, R1, F1];
+    let whole = run(alloc, WORDS, &parts, SMOOTH)?;
+    let small = run(alloc, WORDS, &parts, Ways { room: 30, ..SMOOTH })?;
+    assert_eq!(rt; small.status, Status::WriteFault);
+    assert_eq!(rt; small.out.held().len(), 30);
+    assert!(rt; whole.out.held().starts_with(small.out.held()));
+    let bytewise = Ways {
+        at_a_time: 1,
+        ..SMOOTH
+    };
+    let even = run(alloc, WORDS, &parts, bytewise)?;
+    assert_eq!(rt; even.status, Status::Done);
+    assert!(rt; even.out.held() == whole.out.held());
+    let failing = Ways {
+        failing_writes: &[25],
+        ..bytewise
+    };
+    let cut = run(alloc, WORDS, &parts, failing)?;
+    assert_eq!(rt; cut.status, Status::WriteFault);
+    assert_eq!(rt; cut.out.held().len(), 25);
+    Ok(())
+}

@@ -172,3 +172,52 @@ fn a_generated_capture_is_reported(rt: HostRuntime) -> Result<(), Fail> {
     assert!(rt; reports(alloc, words, &[HL, R1, F1, R1, F1], &signed)?);
     Ok(())
 }
+
+static ZEROS: [u8; 262144] = [0; 262144];
+
+#[test]
+fn the_longest_record_and_other_link_bits_are_taken(rt: HostRuntime) -> Result<(), Fail> {
+    let alloc = rt.alloc();
+    let longest = [
+        HEAD,
+        "records 1\nkeyed 0\nskipped short 0 notip 1 badip 0 tags 0\ncut 0\ntotal 0\n",
+        FOUR_UNUSED,
+        "heavy 0\nend\n",
+    ];
+    let head: &[u8] = b"\0\0\0\0\0\0\0\0\0\0\x04\0\0\0\x04\0";
+    assert!(rt; reports(alloc, "run", &[HL, head, &ZEROS], &longest)?);
+    let none = [
+        HEAD,
+        "records 0\nkeyed 0\n",
+        NONE_SKIPPED,
+        "cut 0\ntotal 0\n",
+        FOUR_UNUSED,
+        "heavy 0\nend\n",
+    ];
+    assert!(rt; reports(alloc, "run", &[&HL[..20], b"\x01\0\x01\0"], &none)?);
+    Ok(())
+}
+
+#[test]
+fn a_cut_record_is_counted_and_not_read(rt: HostRuntime) -> Result<(), Fail> {
+    let alloc = rt.alloc();
+    let mut record = Vec::new(alloc);
+    record.extend_from_slice(R1)?;
+    record.extend_from_slice(F1)?;
+    for len in 0..70usize {
+        let end = run(
+            alloc,
+            "run",
+            &[HL, &record[..len.min(record.len())]],
+            SMOOTH,
+        )?;
+        let cut = format!(in alloc; "cut {len}\n")?;
+        let mut text = String::new(alloc);
+        for piece in [HEAD, "records 0\nkeyed 0\n", NONE_SKIPPED, cut.as_str()] {
+            text.push_str(piece)?;
+        }
+        assert_eq!(rt; end.status, Status::Done);
+        assert!(rt; end.out.held().starts_with(text.as_bytes()));
+    }
+    Ok(())
+}

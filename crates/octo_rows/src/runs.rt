@@ -19,6 +19,9 @@ pub struct Ways<'a> {
     pub failing_reads: &'a [u32],
     pub failing_writes: &'a [u32],
     pub failing_lines: &'a [u32],
+    /// The bytes that the output has room for, and takes at a time.
+    pub room: u32,
+    pub at_a_time: u32,
 }
 
 /// Nothing fails, and bytes come at once.
@@ -27,6 +30,8 @@ pub const SMOOTH: Ways = Ways {
     failing_reads: &[],
     failing_writes: &[],
     failing_lines: &[],
+    room: 65536,
+    at_a_time: 65536,
 };
 
 /// Runs octo on the words, which spaces part, and the parts of a capture.
@@ -35,7 +40,8 @@ pub fn run(alloc: Global, line: &str, parts: &[&[u8]], ways: Ways) -> Result<End
     let words = words_of(alloc, line)?;
     let piece = ways.piece.max(1);
     let mut source = MemSource::new(alloc, bytes.as_slice(), piece, ways.failing_reads)?;
-    let mut out = MemSink::new(alloc, 65536, ways.failing_writes)?;
+    let at_a_time = ways.at_a_time.max(1);
+    let mut out = MemSink::in_pieces(alloc, ways.room, at_a_time, ways.failing_writes)?;
     let mut err = MemSink::new(alloc, 65536, ways.failing_lines)?;
     let status = octo(alloc, words.as_slice(), &mut source, &mut out, &mut err);
     Ok(Ended { status, out, err })
