@@ -1,12 +1,11 @@
-ghost use Rattle.std.specs.Prelude.{◌≡◌, ◌≤◌, pos};
+ghost use Rattle.std.specs.Prelude.{◌≡◌, [], pos, All, IfSome};
+ghost use Rattle.std.specs.Thread.{IsSync};
 ghost use Rattle.live_view.specs.Copies.{HasRoomFor};
 ghost use Rattle.live_view.specs.Sights.{layout_for};
-ghost use Rattle.hash_rows.specs.declared.shape.Shape.{Shape};
-ghost use mathlib.Core.List.{IsPrefix};
 
 use count_min::CountMin;
-use hash_rows::{Answer, Kind, Push, Shape};
-use live_view::{State, View, ViewWriter, make_views, settle};
+use hash_rows::{Answer, Push, Shape};
+use live_view::{State, View, ViewWriter, Views, make_views, settle};
 use packet_key::FlowKey;
 use std::alloc::Global;
 use std::sync::Wait;
@@ -69,9 +68,9 @@ fn an_ask_shows_what_was_published(rt: HostRuntime) -> Result<(), Fail> {
     writer.close(&rt);
     assert!(rt; appended);
     assert_eq!(rt; (before, answer.folded, folded), (0, 1, 1));
-    assert_eq!(rt; answer.front.as_slice(), &[1, 0]);
-    assert_eq!(rt; answer.upto.as_slice(), &[1, 0]);
-    assert_eq!(rt; answer.shown.as_slice(), &[5]);
+    assert_eq!(rt; answer.front.as_slice(), [1, 0].as_slice());
+    assert_eq!(rt; answer.upto.as_slice(), [1, 0].as_slice());
+    assert_eq!(rt; answer.shown.as_slice(), [5].as_slice());
     assert_eq!(rt; state.table().estimate(&KEY), 5);
     Ok(())
 }
@@ -91,9 +90,9 @@ fn write_all<R: Wait>(rt: &R, writer: &mut ViewWriter<CountMin>, messages: u32) 
 }
 
 // Whether no answer has fewer messages than the one before.
-fn read_rising<K: Kind, R: Wait>(
+fn read_rising<R: Wait>(
     rt: &R,
-    view: &mut View<K>,
+    view: &mut View<CountMin>,
     keys: &[FlowKey],
     into: &mut Answer,
 ) -> bool
@@ -120,8 +119,7 @@ fn read_both<R: Threads + Wait + Sync>(
     one: &mut Answer,
     two: &mut Answer,
 ) -> bool
-    requires first { HasRoomFor first.old.layout.workers keys.now one.old }
-    requires second { HasRoomFor second.old.layout.workers keys.now two.old }
+    requires { HasRoomFor first.old.layout.workers keys.now one.old × HasRoomFor second.old.layout.workers keys.now two.old }
     ensures first { (first.new.book ≡ first.old.book) × (first.new.layout ≡ first.old.layout) × HasRoomFor first.old.layout.workers keys.now one.new }
     ensures second { (second.new.book ≡ second.old.book) × (second.new.layout ≡ second.old.layout) × HasRoomFor second.old.layout.workers keys.now two.new }
 {
@@ -133,6 +131,51 @@ fn read_both<R: Threads + Wait + Sync>(
         &mut || second_rises = read_rising(rt, second, keys, two),
     );
     first_rises && second_rises
+}
+
+// The last of the writer's views.
+fn next_view(views: &mut Views<CountMin>, writer: &ViewWriter<CountMin>) -> Option<View<CountMin>>
+    requires { All (λ v. (v.book ≡ writer.now.book) × (v.layout ≡ writer.now.layout) × (v.known ≡ []) × (v.told ≡ [])) views.old.items }
+    ensures own { IfSome result (λ v. (v.book ≡ writer.now.book) × (v.layout ≡ writer.now.layout) × (v.known ≡ []) × (v.told ≡ [])) }
+    ensures rest { All (λ v. (v.book ≡ writer.now.book) × (v.layout ≡ writer.now.layout) × (v.known ≡ []) × (v.told ≡ [])) views.new.items }
+{
+    match views.pop() {
+        Some(view) => Some(view),
+        None => None,
+    }
+}
+
+// A writer beside two readers: whether all was appended, and whether no reader saw less than before.
+fn run_beside<R: Threads + Wait + Sync>(
+    rt: &R,
+    writer: &mut ViewWriter<CountMin>,
+    first: &mut View<CountMin>,
+    second: &mut View<CountMin>,
+    keys: &[FlowKey],
+    one: &mut Answer,
+    two: &mut Answer,
+) -> bool
+    requires writer { writer.old.layout ≡ layout_for (record { rows = 1; columns = 1 }) 2 4 (pos 1) }
+    requires first { HasRoomFor first.old.layout.workers keys.now one.old }
+    requires second { HasRoomFor second.old.layout.workers keys.now two.old }
+    ensures writer { (writer.new.book ≡ writer.old.book) × (writer.new.layout ≡ writer.old.layout) }
+    ensures first { (first.new.book ≡ first.old.book) × (first.new.layout ≡ first.old.layout) × HasRoomFor first.old.layout.workers keys.now one.new }
+    ensures second { (second.new.book ≡ second.old.book) × (second.new.layout ≡ second.old.layout) × HasRoomFor second.old.layout.workers keys.now two.new }
+{
+    let mut wrote = false;
+    let mut rising = false;
+    join_mut(
+        rt,
+        &mut || wrote = write_all(rt, writer, 40),
+        &mut ||
+            requires { IsSync R.row × HasRoomFor first.now.layout.workers keys.now one.now × HasRoomFor second.now.layout.workers keys.now two.now }
+            ensures { (first.exit.now.book ≡ first.entry.now.book) × (first.exit.now.layout ≡ first.entry.now.layout)
+                × (second.exit.now.book ≡ second.entry.now.book) × (second.exit.now.layout ≡ second.entry.now.layout)
+                × HasRoomFor first.entry.now.layout.workers keys.entry.now one.exit.now
+                × HasRoomFor second.entry.now.layout.workers keys.entry.now two.exit.now }
+        { rising = read_both(rt, first, second, keys, one, two) },
+    );
+    wrote && rising
 }
 
 #[test]
@@ -149,21 +192,27 @@ fn readers_beside_a_writer_see_more_and_more(rt: HostRuntime) -> Result<(), Fail
     else {
         return Err(Fail::from("memory"));
     };
-    let mut wrote = false;
     let mut rising = false;
-    if let (Some(mut second), Some(mut first)) = (views.pop(), views.pop()) {
-        join_mut(
+    if let (Some(mut first), Some(mut second)) = (
+        next_view(&mut views, &writer),
+        next_view(&mut views, &writer),
+    ) {
+        rising = run_beside(
             &rt,
-            &mut || wrote = write_all(&rt, &mut writer, 40),
-            &mut || rising = read_both(&rt, &mut first, &mut second, &keys, &mut one, &mut two),
+            &mut writer,
+            &mut first,
+            &mut second,
+            &keys,
+            &mut one,
+            &mut two,
         );
         settle(&rt, &mut writer, &mut first, &keys, &mut one);
         settle(&rt, &mut writer, &mut second, &keys, &mut two);
     }
     writer.close(&rt);
-    assert!(rt; wrote && rising);
+    assert!(rt; rising);
     assert_eq!(rt; (one.folded, two.folded), (40, 40));
-    assert_eq!(rt; one.shown.as_slice(), &[200]);
+    assert_eq!(rt; one.shown.as_slice(), [200].as_slice());
     Ok(())
 }
 
