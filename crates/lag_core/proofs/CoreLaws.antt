@@ -1,6 +1,6 @@
 -- The laws that hold in each state of a core.
-use Rattle.std.proofs.Common.{◌≡◌, ◌<◌, ◌≤◌, ◌==◌, ℕ, ℤ, Bool, true, None, List, [], ◌∷◌, ◌++◌, length, take, drop, map, filter, get_or, slice_get, Some, refl, sym, ◌∙◌, ap, ap₂, subst, arith}
-use Rattle.std.specs.Prelude.{All, MatchOption}
+use Rattle.std.proofs.Common.{◌≡◌, ◌<◌, ◌==◌, ℕ, ℤ, true, List, ◌++◌, take, drop, map, filter, get_or, slice_get, Some, sym, ◌∙◌, ap, ap₂, subst, arith}
+use Rattle.std.specs.Prelude.{All}
 use Rattle.std.proofs.lemmas.List.{map-append, take-append-drop, get_or-take}
 use Rattle.std.proofs.lemmas.List.Elements.{All-take, All-drop, All-filter, All-map, filter-append}
 use Rattle.std.proofs.lemmas.Option.{MatchOption-at_none}
@@ -10,16 +10,15 @@ use Rattle.hash_rows.specs.Rules.{Rules, AreLaws, AreValues}
 use Rattle.hash_rows.specs.Sequential.{joined_of}
 use Rattle.std.proofs.lemmas.List.{length-take-le}
 use Rattle.push_history.specs.Front.{messages_of}
-use Rattle.push_history.specs.LagRun.{State, Worker, worker_in, updates_by}
-use Rattle.push_history.specs.Pushes.{ArePushes, IsNamed, LawfulPushes}
+use Rattle.push_history.specs.LagRun.{State, worker_in, updates_by}
+use Rattle.push_history.specs.Pushes.{ArePushes, LawfulPushes}
 use Rattle.push_history.specs.Residue.{residue}
 use Rattle.push_history.specs.Told.{told, told_of, amounts_for}
-use Rattle.push_history.specs.Updates.{update_at, HoldValues}
 use Rattle.push_history.specs.Whole.{whole, whole_of}
 use Rattle.push_history.proofs.Growing.{told_all}
 use Rattle.push_history.proofs.Parts.{joined_append}
 use Rattle.push_history.proofs.Telling.{whole_is}
-use Rattle.push_rule.specs.Stands.{Sketch, StandsFor, Waits}
+use Rattle.push_rule.specs.Stands.{Sketch, Waits}
 use Rattle.lag_core.specs.Lanes.{Queue}
 use Rattle.lag_core.specs.Workers.{IsWorkerAt, terms_of}
 use Rattle.lag_core.specs.Lags.{Core, IsCoreAt, workers_of}

@@ -1,32 +1,31 @@
 -- A worker's update, and a message that is folded.
-use Rattle.std.proofs.Common.{◌≡◌, ◌≢◌, ◌<◌, ◌≤◌, ◌+◌, ◌-◌, ◌==◌, ◌⊎◌, inl, inr, ℕ, ℤ, pos, Bool, true, false, Some, None, Option, List, [], ◌∷◌, ◌++◌, length, take, drop, filter, set, get_or, slice_get, map, refl, sym, ◌∙◌, ap, ap₂, subst, arith, length-append, length-set, zero, suc, nat_lt, if◌then◌else◌, add-one}
-use Rattle.std.specs.Prelude.{All, min}
+use Rattle.std.proofs.Common.{◌≡◌, ◌≢◌, ◌<◌, ◌≤◌, ◌+◌, ◌-◌, ◌==◌, ◌⊎◌, inl, inr, ℕ, ℤ, Bool, true, false, Some, List, [], ◌∷◌, ◌++◌, length, take, drop, set, get_or, slice_get, refl, sym, ◌∙◌, ap, subst, arith, length-append, length-set, suc, nat_lt, if◌then◌else◌, add-one}
+use Rattle.std.specs.Prelude.{min}
 use Rattle.std.proofs.lemmas.Bool.Decides.{nat_tests}
 use Rattle.std.proofs.lemmas.Bool.{cases_eq}
 use Rattle.std.proofs.Math.Seq.{drop-cons}
-use Rattle.std.proofs.lemmas.List.{take_all, take_more, take-append-le, get_or-set_same, get_or-set_other, length-drop, length-take-le}
+use Rattle.std.proofs.lemmas.List.{take_more, take-append-le, get_or-set_same, get_or-set_other, length-drop}
 use Rattle.std.proofs.lemmas.List.Elements.{All-push}
 use Rattle.hash_rows.specs.declared.options.Full.{Full}
 use Rattle.hash_rows.specs.declared.options.Full.TheVariants.{Leave, Wait}
 use Rattle.hash_rows.specs.declared.shape.Push.{Push}
-use Rattle.hash_rows.specs.declared.shape.Shape.{Shape}
 use Rattle.hash_rows.specs.Rules.{Rules}
 use Rattle.hash_rows.specs.Shapes.{size_of}
 use Rattle.push_history.specs.declared.event.Event.TheVariants.{Update, Take}
 use Rattle.push_history.specs.declared.event.Reply.{Reply}
 use Rattle.push_history.specs.declared.event.Reply.TheVariants.{Took, Empty, Over, Counted}
 use Rattle.push_history.specs.Front.{front_of, messages_of, message_at}
-use Rattle.push_history.specs.LagRun.{Terms, State, Worker, lag_step, take_step, count_step, pushes, meets_full, message_of, worker_in, with_worker, fresh_worker, updates_by}
+use Rattle.push_history.specs.LagRun.{Terms, State, Worker, lag_step, take_step, count_step, pushes, meets_full, message_of, worker_in, fresh_worker, updates_by}
 use Rattle.push_history.specs.Pushes.{distance_at}
 use Rattle.push_history.specs.LiveHeavy.{live_keys, missed_keys}
 use Rattle.push_rule.specs.Stands.{Sketch}
 use Rattle.lag_core.specs.Lanes.{Queue}
-use Rattle.lag_core.specs.Sights.{Sight, IsSightOf, with_message}
-use Rattle.lag_core.specs.Workers.{Limits, terms_of, IsWorkerAt}
-use Rattle.lag_core.specs.Lags.{Core, IsCoreAt, Steps, HoldsHeavy, with_note, workers_of}
+use Rattle.lag_core.specs.Sights.{IsSightOf, with_message}
+use Rattle.lag_core.specs.Workers.{terms_of, IsWorkerAt}
+use Rattle.lag_core.specs.Lags.{Core, IsCoreAt, Steps, with_note, workers_of}
 use Rattle.lag_core.proofs.Folding.{cells_more, front_more, upto_more}
 use Rattle.lag_core.proofs.Heavies.{heavy_more, note_leaves, Leaves}
-use Rattle.lag_core.proofs.Lists.{slot_set, slot_value, slot_below, filter_push}
+use Rattle.lag_core.proofs.Lists.{slot_set, filter_push}
 
 -- an update leaves what was taken
 count_keeps : (t : Terms) (w : ℕ) (s : Worker) → s.taken ≤ length s.sent → ((count_step t w s).0.taken ≡ s.taken) × (take s.taken (count_step t w s).0.sent ≡ take s.taken s.sent)

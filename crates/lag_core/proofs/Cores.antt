@@ -1,32 +1,18 @@
 -- The events of a core, one at a time.
-use Rattle.std.proofs.Common.{◌≡◌, ◌≢◌, ◌<◌, ◌≤◌, ◌+◌, ◌-◌, ◌==◌, ◌⊎◌, inl, inr, ℕ, ℤ, Bool, true, false, Some, None, Option, List, [], ◌∷◌, ◌++◌, length, take, drop, filter, set, get_or, slice_get, map, refl, sym, ◌∙◌, ap, ap₂, subst, arith, length-append, length-set, zero, suc}
-use Rattle.std.specs.Prelude.{All, min}
-use Rattle.std.proofs.lemmas.Bool.Decides.{nat_tests}
-use Rattle.std.proofs.lemmas.Bool.{cases_eq}
-use Rattle.std.proofs.lemmas.List.{take_all, take_more, take-append-le, get_or-set_same, get_or-set_other, length-drop, length-take-le}
-use Rattle.std.proofs.lemmas.List.Elements.{All-push}
-use Rattle.std.proofs.lemmas.Option.{get_or_from_slice_get, slice_get-get_or, slice_get_within}
+use Rattle.std.proofs.Common.{◌≡◌, ◌≢◌, ◌<◌, ◌≤◌, ◌⊎◌, inl, inr, ℕ, ℤ, Some, List, length, take, set, get_or, slice_get, refl, sym, ◌∙◌, ap, subst, arith, length-set}
+use Rattle.std.specs.Prelude.{min}
+use Rattle.std.proofs.lemmas.List.{take_all, get_or-set_same, get_or-set_other}
 use Rattle.hash_rows.specs.declared.shape.Push.{Push}
 use Rattle.hash_rows.specs.declared.shape.Shape.{Shape}
 use Rattle.hash_rows.specs.Rules.{Rules}
-use Rattle.hash_rows.specs.Shapes.{size_of}
-use Rattle.heavy_keys.specs.Noted.{HeavyTable}
-use Rattle.push_history.specs.declared.event.Event.{Event}
-use Rattle.push_history.specs.declared.event.Event.TheVariants.{Update, Take, Publish, Ask}
-use Rattle.push_history.specs.declared.event.Reply.{Reply}
-use Rattle.push_history.specs.declared.event.Reply.TheVariants.{Took, Empty, Published, Answered}
-use Rattle.push_history.specs.Front.{front_of, messages_of, message_at}
-use Rattle.push_history.specs.LagRun.{Terms, State, Worker, lag_step, take_step, count_step, worker_in, with_worker, fresh_worker, updates_by}
+use Rattle.push_history.specs.declared.event.Event.TheVariants.{Publish, Ask}
+use Rattle.push_history.specs.declared.event.Reply.TheVariants.{Published, Answered}
+use Rattle.push_history.specs.Front.{front_of}
+use Rattle.push_history.specs.LagRun.{State, lag_step}
 use Rattle.push_history.specs.LiveHeavy.{live_keys, missed_keys}
-use Rattle.push_history.proofs.Runs.{worker_there}
-use Rattle.push_rule.specs.Stands.{Sketch}
-use Rattle.lag_core.specs.Lanes.{Queue}
-use Rattle.lag_core.specs.Sights.{Sight, IsSightOf, with_message}
-use Rattle.lag_core.specs.Workers.{Limits, terms_of, IsWorkerAt}
-use Rattle.lag_core.specs.Lags.{Core, IsCoreAt, Steps, HoldsHeavy, with_note, workers_of}
-use Rattle.lag_core.proofs.Folding.{cells_more, front_more, upto_more}
-use Rattle.lag_core.proofs.Heavies.{heavy_more, note_leaves, Leaves}
-use Rattle.lag_core.proofs.Lists.{slot_set, filter_push}
+use Rattle.lag_core.specs.Sights.{Sight, IsSightOf}
+use Rattle.lag_core.specs.Lags.{Core, IsCoreAt, Steps, workers_of}
+use Rattle.lag_core.proofs.Lists.{slot_set}
 
 -- all of what is folded is shown
 sight_shown : (r : Rules) (shape : Shape) (workers : ℕ) (x : Sight) (messages : List Push) → IsSightOf r shape workers x messages → IsSightOf r shape workers x (take (length messages) messages)

@@ -1,8 +1,6 @@
 -- One message more, in what the folded messages tell.
-use Rattle.std.proofs.Common.{◌≡◌, ◌≢◌, ℕ, ℤ, pos, zero, suc, ◌+◌, ◌-◌, ◌<◌, ◌≤◌, ◌==◌, ◌&&◌, min, Bool, true, false, cond, List, [], ◌∷◌, ◌++◌, length, map, get_or, set, replicate, fold, filter, take, refl, sym, ap, ◌∙◌, arith, subst, append_assoc, length-append}
-use Rattle.std.specs.Prelude.{nat_lt}
+use Rattle.std.proofs.Common.{◌≡◌, ℕ, ℤ, pos, suc, ◌+◌, ◌-◌, ◌<◌, ◌==◌, Bool, true, false, cond, List, [], ◌∷◌, ◌++◌, length, map, get_or, set, replicate, fold, filter, take, sym, ap, ◌∙◌, arith, length-append}
 use Rattle.std.specs.List.{range_with_len}
-use Rattle.packet_key.specs.declared.key.FlowKey.{FlowKey}
 use Rattle.hash_rows.specs.declared.shape.Flow.{Flow}
 use Rattle.hash_rows.specs.declared.shape.Push.{Push}
 use Rattle.hash_rows.specs.declared.shape.Shape.{Shape}
@@ -13,12 +11,11 @@ use Rattle.push_history.specs.Shown.{told_cells}
 use Rattle.push_history.specs.Front.{message_at, messages_of, front_of, upto_of, uptos_of}
 use Rattle.push_history.specs.LiveHeavy.{note_at, notes_of}
 use Rattle.std.proofs.lemmas.List.{map-append, length-replicate, get_or-replicate, get_or_append_left}
-use Rattle.std.proofs.lemmas.List.Elements.{All-head, All-tail}
 use Rattle.std.proofs.lemmas.List.FromFn.{fill_by_all, get_or-map-range_with_len, map-range_with_len_more}
 use Rattle.std.proofs.lemmas.List.Sums.{fold-append}
-use Rattle.std.proofs.lemmas.List.{take_all, append-nil}
+use Rattle.std.proofs.lemmas.List.{take_all}
 use Rattle.std.proofs.lemmas.Bool.Decides.{nat_tests}
-use Rattle.lag_core.proofs.Lists.{filter_push, filter_length, set_made, get_or_last, take_before, made_same}
+use Rattle.lag_core.proofs.Lists.{filter_push, set_made, get_or_last, take_before, made_same}
 
 told_by : (r : Rules) (cell : ℕ) (messages : List Push) (m : Push) (b : Bool) → (m.cell == cell) ≡ b
     → told_of r cell (messages ++ m ∷ []) ≡ cond b (r.join (told_of r cell messages) m.amount) (told_of r cell messages)

@@ -1,5 +1,5 @@
 -- A core to which nothing has happened.
-use Rattle.std.proofs.Common.{◌≡◌, ◌<◌, ◌≤◌, ℕ, ℤ, pos, true, false, true≢false, List, [], length, take, map, get_or, replicate, slice_get, Some, refl, sym, ◌∙◌, ap, subst, arith, min}
+use Rattle.std.proofs.Common.{◌≡◌, ◌<◌, ℕ, ℤ, pos, true, true≢false, List, [], length, take, get_or, replicate, slice_get, Some, refl, sym, ◌∙◌, ap, subst, arith}
 use Rattle.std.specs.Prelude.{All}
 use Rattle.std.proofs.lemmas.List.{length-replicate, get_or-replicate}
 use Rattle.std.proofs.lemmas.List.Elements.{All-nil}
@@ -11,15 +11,14 @@ use Rattle.hash_rows.specs.Rules.{Rules}
 use Rattle.hash_rows.specs.Shapes.{IsShape, size_of}
 use Rattle.heavy_keys.proofs.LiveLemmas.{holds_none}
 use Rattle.push_history.specs.Front.{front_of}
-use Rattle.push_history.specs.LagRun.{State, Worker, lag_run, start, fresh_worker, updates_by, worker_in}
-use Rattle.push_history.specs.LiveHeavy.{live_keys, missed_keys}
+use Rattle.push_history.specs.LagRun.{Worker, lag_run, start, fresh_worker, updates_by}
 use Rattle.push_history.specs.Pushes.{IsNamed}
 use Rattle.push_history.specs.Updates.{HoldValues}
 use Rattle.push_rule.specs.Stands.{Sketch}
 use Rattle.lag_core.specs.Lanes.{Queue, fresh_lane}
 use Rattle.lag_core.specs.Sights.{Sight, IsSightOf}
 use Rattle.lag_core.specs.Workers.{IsWorkerAt, IsFreshSketch, terms_of}
-use Rattle.lag_core.specs.Lags.{Core, IsCoreAt, HoldsHeavy, workers_of}
+use Rattle.lag_core.specs.Lags.{Core, IsCoreAt, workers_of}
 use Rattle.lag_core.proofs.Folding.{cells_none, front_none, upto_none}
 use Rattle.lag_core.proofs.Heavies.{heavy_none}
 use Rattle.lag_core.proofs.Lists.{all_slot}

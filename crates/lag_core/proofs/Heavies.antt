@@ -1,11 +1,11 @@
 -- The heavy keys of what is folded, with one message more.
-use Rattle.std.proofs.Common.{◌≡◌, ℕ, ℤ, Bool, true, false, List, [], ◌∷◌, ◌++◌, length, take, min, nat_lt, refl, sym, ◌∙◌, ap, subst, append-nil}
+use Rattle.std.proofs.Common.{◌≡◌, ℕ, ℤ, Bool, true, false, List, [], ◌∷◌, ◌++◌, length, min, nat_lt, refl, sym, ◌∙◌, ap, subst, append-nil}
 use Rattle.std.specs.Prelude.{if◌then◌else◌}
 use Rattle.packet_key.specs.declared.key.FlowKey.{FlowKey}
 use Rattle.hash_rows.specs.declared.shape.Push.{Push}
 use Rattle.hash_rows.specs.declared.shape.Shape.{Shape}
 use Rattle.hash_rows.specs.Rules.{Rules}
-use Rattle.heavy_keys.specs.Noted.{HeavyTable, noted, is_due, one_more, kept_or_missed}
+use Rattle.heavy_keys.specs.Noted.{HeavyTable, noted, is_due, one_more}
 use Rattle.heavy_keys.specs.Live.{HoldsLive}
 use Rattle.heavy_keys.proofs.LiveLemmas.{holds_noted}
 use Rattle.push_history.specs.LiveHeavy.{live_keys, missed_keys, notes_of, live_of, missed_of}

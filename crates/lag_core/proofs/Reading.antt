@@ -1,19 +1,16 @@
 -- What is read of a core, and what it means.
-use Rattle.std.proofs.Common.{◌≡◌, ◌<◌, ◌≤◌, ◌+◌, ◌-◌, ◌==◌, ℕ, ℤ, Bool, pos, true, List, [], length, take, drop, map, filter, get_or, slice_get, Some, refl, sym, ◌∙◌, ap, ap₂, subst, arith, min, zero, suc, ◌∷◌}
-use Rattle.std.specs.Prelude.{All}
-use Rattle.std.specs.List.{range_with_len}
+use Rattle.std.proofs.Common.{◌≡◌, ◌<◌, ◌≤◌, ◌-◌, ◌==◌, ℕ, ℤ, Bool, pos, true, List, [], length, take, drop, filter, get_or, slice_get, Some, refl, sym, ◌∙◌, ap, arith, zero, suc, ◌∷◌}
 use Rattle.std.proofs.Math.ListN.{get_or-map}
 use Rattle.std.proofs.lemmas.List.{length-take, length-drop, take_all, length-take-le}
 use Rattle.std.proofs.lemmas.List.Elements.{All-take}
 use Rattle.std.proofs.lemmas.List.FromFn.{get_or-map-range_with_len}
 use Rattle.std.proofs.lemmas.Option.{get_or_from_slice_get}
 use Rattle.hash_rows.specs.declared.shape.Push.{Push}
-use Rattle.hash_rows.specs.declared.shape.Shape.{Shape}
 use Rattle.hash_rows.specs.declared.shape.Update.{Update as Entry}
 use Rattle.hash_rows.specs.Rules.{Rules, AreLaws}
 use Rattle.hash_rows.specs.Shapes.{size_of}
 use Rattle.push_history.specs.Front.{front_of, messages_of}
-use Rattle.push_history.specs.LagRun.{State, Worker, worker_in, fresh_worker, updates_by}
+use Rattle.push_history.specs.LagRun.{State, Worker, worker_in, fresh_worker}
 use Rattle.push_history.specs.Residue.{residue}
 use Rattle.push_history.specs.Shown.{shown_of, shown_cells, told_cells}
 use Rattle.push_history.specs.Told.{told, told_of}
@@ -24,7 +21,6 @@ use Rattle.std.proofs.lemmas.List.{take-append-drop}
 use Rattle.std.proofs.lemmas.List.Elements.{filter-append}
 use Rattle.push_rule.specs.Stands.{Sketch}
 use Rattle.lag_core.specs.Lanes.{Queue}
-use Rattle.lag_core.specs.Workers.{IsWorkerAt, terms_of}
 use Rattle.lag_core.specs.Lags.{Core, IsCoreAt, workers_of, sent_by_each, shown_messages}
 use Rattle.lag_core.proofs.Lists.{slot_below, made_same}
 use Rattle.lag_core.proofs.Sizes.{map_length}

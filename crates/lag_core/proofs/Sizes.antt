@@ -1,12 +1,12 @@
 -- How long the lists of a core are.
-use Rattle.std.proofs.Common.{◌≡◌, ◌<◌, ◌≤◌, ◌+◌, ◌^◌, ℕ, ℤ, pos, true, List, length, take, map, get_or, set, slice_get, Some, refl, sym, ◌∙◌, ap, subst, arith, [], ◌∷◌, zero, suc}
+use Rattle.std.proofs.Common.{◌≡◌, ◌<◌, ◌+◌, ◌^◌, ℕ, ℤ, true, List, length, take, map, get_or, set, slice_get, Some, refl, sym, ◌∙◌, ap, subst, arith, [], ◌∷◌, zero, suc}
 use Rattle.std.specs.Prelude.{All}
-use Rattle.std.specs.List.{range_with_len, AllZip}
+use Rattle.std.specs.List.{AllZip}
 use Rattle.std.proofs.Common.{◌++◌}
 use Rattle.std.proofs.lemmas.List.{take_more}
 use Rattle.std.proofs.lemmas.List.FromFn.{length-map-range_with_len, get_or-map-range_with_len}
 use Rattle.std.proofs.lemmas.List.{length-take}
-use Rattle.std.proofs.lemmas.Option.{slice_get-get_or, get_or_from_slice_get}
+use Rattle.std.proofs.lemmas.Option.{slice_get-get_or}
 use Rattle.hash_rows.specs.declared.shape.Push.{Push}
 use Rattle.hash_rows.specs.declared.shape.Shape.{Shape}
 use Rattle.hash_rows.specs.Rules.{Rules, AreLaws, AreValues}
@@ -19,7 +19,6 @@ use Rattle.push_history.proofs.Joins.{told_value}
 use Rattle.push_rule.specs.Stands.{Sketch}
 use Rattle.lag_core.specs.Lanes.{Queue}
 use Rattle.lag_core.specs.Sights.{Sight, IsSightOf}
-use Rattle.lag_core.specs.Workers.{terms_of, IsWorkerAt}
 use Rattle.lag_core.specs.Lags.{Core, IsCoreAt, workers_of}
 
 pub cells_length : (r : Rules) (shape : Shape) (workers : ℕ) (x : Sight) (messages : List Push) → IsSightOf r shape workers x messages → length x.cells ≡ size_of shape

@@ -1,5 +1,5 @@
 -- A worker takes up its next update.
-use Rattle.std.proofs.Common.{◌≡◌, ◌<◌, ◌≤◌, ◌+◌, ◌-◌, ◌==◌, ℕ, ℤ, Bool, true, false, List, [], ◌∷◌, ◌++◌, length, take, drop, map, filter, refl, sym, ◌∙◌, ap, ap₂, subst, arith, length-append, nat_lt, pos, if◌then◌else◌}
+use Rattle.std.proofs.Common.{◌≡◌, ◌<◌, ◌≤◌, ◌+◌, ◌-◌, ◌==◌, ℕ, ℤ, Bool, true, false, List, [], ◌∷◌, ◌++◌, length, take, drop, filter, refl, sym, ◌∙◌, ap, ap₂, subst, arith, length-append, nat_lt}
 use Rattle.std.specs.Prelude.{All}
 use Rattle.std.proofs.lemmas.Bool.Decides.{nat_tests}
 use Rattle.std.proofs.Common.{None, Some, Option}
@@ -14,14 +14,13 @@ use Rattle.hash_rows.specs.declared.options.Full.TheVariants.{Leave, Wait}
 use Rattle.hash_rows.specs.declared.shape.Push.{Push}
 use Rattle.hash_rows.specs.declared.shape.Update.{Update as Entry}
 use Rattle.hash_rows.specs.Rules.{Rules, AreLaws}
-use Rattle.push_history.specs.declared.event.Reply.{Reply}
 use Rattle.push_history.specs.declared.event.Reply.TheVariants.{Counted, Pushed, Refused, Waits, Over}
 use Rattle.push_history.specs.LagRun.{Terms, Worker, updates_by, count_step, pushes, meets_full, message_of}
 use Rattle.push_history.specs.Pushes.{IsNamed, is_refused, distance_at}
 use Rattle.push_history.specs.Told.{told, told_of, messages_before}
-use Rattle.push_history.specs.Updates.{update_at, HoldValues}
+use Rattle.push_history.specs.Updates.{update_at}
 use Rattle.push_history.specs.Whole.{whole, whole_of}
-use Rattle.push_history.proofs.Growing.{told_all, refused_other, refused_same}
+use Rattle.push_history.proofs.Growing.{told_all, refused_other}
 use Rattle.push_history.proofs.Joins.{told_value, whole_value}
 use Rattle.push_rule.specs.Stands.{Sketch, StandsFor}
 use Rattle.push_rule.proofs.Standing.{whole_own}

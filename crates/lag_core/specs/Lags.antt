@@ -1,5 +1,5 @@
 -- What a running core stands for.
-use Rattle.std.specs.Prelude.{◌≡◌, ◌<◌, ◌≤◌, ℕ, ℤ, List, [], All, Some, length, take, min, true, slice_get, slice_index_or, map, if◌then◌else◌}
+use Rattle.std.specs.Prelude.{◌≡◌, ◌<◌, ◌≤◌, ℕ, ℤ, List, All, Some, length, take, min, true, slice_get, slice_index_or, map, if◌then◌else◌}
 use Rattle.hash_rows.specs.declared.shape.Push.{Push}
 use Rattle.hash_rows.specs.declared.shape.Shape.{Shape}
 use Rattle.hash_rows.specs.Rules.{Rules}
@@ -9,7 +9,7 @@ use Rattle.push_history.specs.declared.event.Event.{Event}
 use Rattle.push_history.specs.declared.event.Event.TheVariants.{Update, Take, Publish, Ask}
 use Rattle.push_history.specs.declared.event.Reply.{Reply}
 use Rattle.push_history.specs.Front.{front_of, messages_of}
-use Rattle.push_history.specs.LagRun.{Terms, State, lag_step, lag_run, worker_in}
+use Rattle.push_history.specs.LagRun.{State, lag_step, lag_run, worker_in}
 use Rattle.push_history.specs.LiveHeavy.{live_keys, missed_keys}
 use Rattle.push_rule.specs.Stands.{Sketch}
 use Rattle.lag_core.specs.Lanes.{Queue}

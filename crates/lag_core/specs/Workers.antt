@@ -1,5 +1,5 @@
 -- A worker that runs, and the state of a run that it stands for.
-use Rattle.std.specs.Prelude.{◌≡◌, ◌<◌, ◌≤◌, ℕ, ℤ, ◌^◌, List, [], All, Option, None, length, take, drop, true}
+use Rattle.std.specs.Prelude.{◌≡◌, ◌<◌, ◌≤◌, ℕ, ℤ, ◌^◌, List, [], All, None, length, take, drop, true}
 use Rattle.hash_rows.specs.declared.options.Full.{Full}
 use Rattle.hash_rows.specs.declared.options.Full.TheVariants.{Wait}
 use Rattle.hash_rows.specs.declared.shape.Push.{Push}

@@ -4,7 +4,7 @@ use Rattle.hash_rows.specs.Rules.{AreValues}
 use Rattle.hash_rows.specs.Tables.{joined_at}
 use Rattle.hash_rows.proofs.Values.{values_joined}
 use Rattle.heavy_keys.specs.Noted.{noted}
-use Rattle.lag_core.specs.Sights.{Sight, with_message}
+use Rattle.lag_core.specs.Sights.{Sight}
 use Rattle.lag_core.proofs.lag.fold_message.Goals as goal
 
 pub estimate-estimate-requires-clause-values : goal.estimate-estimate-requires-clause-values

@@ -1,4 +1,4 @@
-use Rattle.std.proofs.Common.{rules, ◌≡◌, ◌∙◌, ◌+◌, sym, ap, ◌<◌, length, length-set, take, ◌++◌, ◌∷◌, [], List, arith}
+use Rattle.std.proofs.Common.{◌∙◌, ◌+◌, sym, ap, ◌<◌, length, length-set, take, ◌++◌, ◌∷◌, [], arith}
 use Rattle.std.proofs.lemmas.List.{take_more, take_more_set}
 use Rattle.std.proofs.lemmas.Option.{get_or_from_slice_get}
 use Rattle.lag_core.proofs.sight.copy_items.Goals as goal

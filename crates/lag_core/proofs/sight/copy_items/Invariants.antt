@@ -1,4 +1,4 @@
-use Rattle.std.proofs.Common.{◌≡◌, take, drop, ◌++◌, length, ◌≤◌}
+use Rattle.std.proofs.Common.{◌≡◌, take, length}
 use Rattle.lag_core.proofs.sight.copy_items.Given as goal
 
 abbrev pub invariant-loop-place : goal.invariant-loop-place

@@ -1,10 +1,9 @@
-use Rattle.std.proofs.Common.{rules, ◌≡◌, ◌∙◌, ◌+◌, ◌-◌, ℤ, sym, ap, subst, refl, take, length, w64, to_z, of_z, arith, ◌≤◌, ◌<◌, Some, None, ◌++◌, ◌∷◌, []}
-use Rattle.std.specs.Prelude.{MatchOption, option_map}
-use Rattle.push_history.specs.LagRun.{Worker, count_step, updates_by}
+use Rattle.std.proofs.Common.{rules, ◌≡◌, ◌∙◌, ◌-◌, ℤ, sym, ap, take, length, w64, to_z, of_z, arith, ◌≤◌, ◌++◌, ◌∷◌, []}
+use Rattle.push_history.specs.LagRun.{updates_by}
 use Rattle.push_history.specs.Told.{told_of}
 use Rattle.push_history.specs.Whole.{whole_of}
 use Rattle.push_rule.specs.Stands.{StandsFor}
-use Rattle.lag_core.specs.Workers.{IsWorkerAt, Limits, terms_of}
+use Rattle.lag_core.specs.Workers.{terms_of}
 use Rattle.lag_core.proofs.Working.{step_counted, step_refused, step_sent, full_from, room_from, of_some}
 use Rattle.lag_core.proofs.worker.count_next.Goals as goal
 

@@ -1,10 +1,10 @@
-use Rattle.std.proofs.Common.{rules, ◌≡◌, ◌∙◌, ◌<◌, ◌≤◌, sym, ap, ap₂, subst, length, arith, true, take, List}
+use Rattle.std.proofs.Common.{◌≡◌, ◌∙◌, ◌<◌, ◌≤◌, sym, ap, ap₂, length, arith, true, take, List}
 use Rattle.std.proofs.lemmas.Option.{get_or_from_slice_get}
 use Rattle.hash_rows.specs.declared.shape.Update.{Update}
 use Rattle.push_history.specs.LagRun.{updates_by}
 use Rattle.push_history.specs.Updates.{update_at}
-use Rattle.lag_core.specs.Workers.{IsWorkerAt, Limits, terms_of}
-use Rattle.lag_core.proofs.Lists.{all_slot, slot_value, slot_below}
+use Rattle.lag_core.specs.Workers.{terms_of}
+use Rattle.lag_core.proofs.Lists.{all_slot}
 use Rattle.lag_core.proofs.Working.{step_over, step_waits, near_enough, its_count}
 use Rattle.lag_core.proofs.worker.take_up.Goals as goal
 

@@ -1,10 +1,10 @@
-use Rattle.std.proofs.Common.{◌≡◌, ◌∙◌, ◌<◌, ℕ, List, sym, ap, subst, length, set, slice_get, Some, map, arith}
+use Rattle.std.proofs.Common.{◌∙◌, ◌<◌, ℕ, List, sym, ap, subst, length, set, map}
 use Rattle.listed.specs.Listed.{Listed}
 use Rattle.push_history.specs.declared.event.Event.TheVariants.{Ask}
 use Rattle.push_history.specs.declared.event.Reply.TheVariants.{Answered}
 use Rattle.push_history.specs.LagRun.{lag_step}
 use Rattle.lag_core.specs.declared.lag.Lag.TheView.{view}
-use Rattle.lag_core.specs.Lags.{Core, Steps, workers_of}
+use Rattle.lag_core.specs.Lags.{Core, Steps}
 use Rattle.lag_core.specs.Workers.{terms_of}
 use Rattle.lag_core.proofs.Cores.{ask_steps}
 use Rattle.lag_core.proofs.Sizes.{seen_length, map_set, map_at, map_length, read_at}

@@ -1,21 +1,13 @@
-use Rattle.std.proofs.Common.{rules, ◌≡◌, ◌∙◌, ◌<◌, ◌≤◌, ◌-◌, ℕ, ℤ, Bool, pos, true, List, [], sym, ap, subst, length, get_or, slice_get, Some, take, map, arith, w64, to_z, of_z}
-use Rattle.std.proofs.lemmas.Option.{get_or_from_slice_get}
+use Rattle.std.proofs.Common.{rules, ◌≡◌, ◌∙◌, ℤ, true, List, sym, ap, subst, length, w64, to_z, of_z}
 use Rattle.std.proofs.lemmas.List.Elements.{All-take}
-use Rattle.listed.specs.Listed.{Listed}
-use Rattle.hash_rows.specs.declared.shape.Update.{Update as Entry}
 use Rattle.hash_rows.specs.Rules.{AreValues}
-use Rattle.hash_rows.specs.Shapes.{size_of}
 use Rattle.push_history.specs.declared.event.Event.{Event}
-use Rattle.push_history.specs.Front.{front_of, uptos_of}
-use Rattle.push_history.specs.LagRun.{updates_by, worker_in}
-use Rattle.push_history.specs.Pushes.{is_refused}
-use Rattle.push_history.specs.Residue.{residue}
-use Rattle.push_history.specs.Shown.{shown_of, shown_cells}
+use Rattle.push_history.specs.Front.{front_of}
+use Rattle.push_history.specs.Shown.{shown_cells}
 use Rattle.lag_core.specs.declared.lag.Lag.TheView.{view}
 use Rattle.lag_core.specs.Lags.{Core, StandsFor, sent_by_each, shown_messages, state_after, workers_of}
-use Rattle.lag_core.specs.Workers.{terms_of}
-use Rattle.lag_core.proofs.Reading.{cell_is, cells_are, queued_is, residue_first}
-use Rattle.lag_core.proofs.Sizes.{cells_length, front_length, upto_length, cells_values, map_at, map_length, read_at, some_at, seen_length}
+use Rattle.lag_core.proofs.Reading.{cells_are}
+use Rattle.lag_core.proofs.Sizes.{cells_length, cells_values}
 use Rattle.lag_core.proofs.lag.Lag.estimate.Goals as goal
 
 pub estimate-requires-clause-cells : goal.estimate-requires-clause-cells

@@ -1,20 +1,10 @@
-use Rattle.std.proofs.Common.{rules, ◌≡◌, ◌∙◌, ◌<◌, ◌≤◌, ◌-◌, ℕ, ℤ, Bool, pos, true, List, [], sym, ap, subst, length, get_or, slice_get, Some, take, map, arith, w64, to_z, of_z}
+use Rattle.std.proofs.Common.{◌≡◌, ◌∙◌, ◌<◌, ℕ, List, sym, ap, subst, length, get_or, arith}
 use Rattle.std.proofs.lemmas.Option.{get_or_from_slice_get}
-use Rattle.listed.specs.Listed.{Listed}
-use Rattle.hash_rows.specs.declared.shape.Update.{Update as Entry}
-use Rattle.hash_rows.specs.Rules.{AreValues}
-use Rattle.hash_rows.specs.Shapes.{size_of}
 use Rattle.push_history.specs.declared.event.Event.{Event}
-use Rattle.push_history.specs.Front.{front_of, uptos_of}
-use Rattle.push_history.specs.LagRun.{updates_by, worker_in}
-use Rattle.push_history.specs.Pushes.{is_refused}
-use Rattle.push_history.specs.Residue.{residue}
-use Rattle.push_history.specs.Shown.{shown_of, shown_cells}
+use Rattle.push_history.specs.Front.{front_of}
 use Rattle.lag_core.specs.declared.lag.Lag.TheView.{view}
-use Rattle.lag_core.specs.Lags.{Core, StandsFor, sent_by_each, shown_messages, state_after, workers_of}
-use Rattle.lag_core.specs.Workers.{terms_of}
-use Rattle.lag_core.proofs.Reading.{cell_is, cells_are, queued_is, residue_first}
-use Rattle.lag_core.proofs.Sizes.{cells_length, front_length, upto_length, cells_values, map_at, map_length, read_at, some_at, seen_length}
+use Rattle.lag_core.specs.Lags.{Core, StandsFor, shown_messages, state_after, workers_of}
+use Rattle.lag_core.proofs.Sizes.{front_length}
 use Rattle.lag_core.proofs.lag.Lag.front.Goals as goal
 
 pub get-requires : goal.get-requires

@@ -1,4 +1,4 @@
-use Rattle.std.proofs.Common.{◌≡◌, ◌∙◌, ◌<◌, ℕ, List, [], sym, ap, subst, refl, length, map, replicate, slice_get, Some, arith}
+use Rattle.std.proofs.Common.{◌≡◌, ◌∙◌, ◌<◌, ℕ, List, [], sym, ap, subst, refl, length, map, replicate, arith}
 use Rattle.std.specs.Prelude.{All}
 use Rattle.std.proofs.lemmas.List.Elements.{All-map}
 use Rattle.listed.specs.Listed.{Listed}
@@ -8,7 +8,7 @@ use Rattle.heavy_keys.specs.Noted.{HeavyTable}
 use Rattle.push_history.specs.LagRun.{lag_run}
 use Rattle.push_history.specs.Updates.{HoldValues}
 use Rattle.push_rule.specs.Stands.{Sketch}
-use Rattle.lag_core.specs.Lags.{Core, IsCoreAt, workers_of}
+use Rattle.lag_core.specs.Lags.{Core, workers_of}
 use Rattle.lag_core.specs.Lanes.{Queue, fresh_lane}
 use Rattle.lag_core.specs.Workers.{IsFreshSketch, terms_of}
 use Rattle.lag_core.proofs.Fresh.{core_fresh, zeros}

@@ -1,9 +1,9 @@
-use Rattle.std.proofs.Common.{◌≡◌, ◌∙◌, ℕ, sym, ap, subst, length}
+use Rattle.std.proofs.Common.{◌∙◌, ℕ, sym, subst}
 use Rattle.push_history.specs.declared.event.Event.TheVariants.{Publish}
 use Rattle.push_history.specs.declared.event.Reply.TheVariants.{Published}
 use Rattle.push_history.specs.LagRun.{lag_step}
 use Rattle.lag_core.specs.declared.lag.Lag.TheView.{view}
-use Rattle.lag_core.specs.Lags.{Core, Steps, workers_of}
+use Rattle.lag_core.specs.Lags.{Core, Steps}
 use Rattle.lag_core.specs.Sights.{Sight}
 use Rattle.lag_core.specs.Workers.{terms_of}
 use Rattle.lag_core.proofs.Cores.{publish_steps}

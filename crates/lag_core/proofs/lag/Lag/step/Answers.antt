@@ -1,7 +1,7 @@
-use Rattle.std.proofs.Common.{◌≡◌, ◌∙◌, ◌++◌, ◌∷◌, [], sym, ap, subst, length}
-use Rattle.push_history.specs.LagRun.{lag_run, lag_step, reply_to, State}
+use Rattle.std.proofs.Common.{◌∙◌, ◌++◌, ◌∷◌, [], sym, subst, length}
+use Rattle.push_history.specs.LagRun.{lag_run, reply_to, State}
 use Rattle.push_history.proofs.Runs.{run_more}
-use Rattle.lag_core.specs.Lags.{Core, IsCoreAt}
+use Rattle.lag_core.specs.Lags.{IsCoreAt}
 use Rattle.lag_core.specs.Workers.{terms_of}
 use Rattle.lag_core.proofs.CoreLaws.{lawful_at, conserves_at}
 use Rattle.lag_core.proofs.lag.Lag.step.Goals as goal

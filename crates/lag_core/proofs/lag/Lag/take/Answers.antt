@@ -1,4 +1,4 @@
-use Rattle.std.proofs.Common.{rules, ◌≡◌, ◌∙◌, ◌<◌, ◌^◌, ℕ, ℤ, List, [], sym, ap, subst, refl, length, set, get_or, slice_get, Some, map, arith, w64, to_z, of_z}
+use Rattle.std.proofs.Common.{rules, ◌≡◌, ◌∙◌, ◌<◌, ◌^◌, ℕ, ℤ, List, sym, ap, subst, set, get_or, arith, w64, to_z, of_z}
 use Rattle.heavy_keys.specs.Noted.{HeavyTable}
 use Rattle.push_history.specs.declared.event.Event.TheVariants.{Take}
 use Rattle.push_history.specs.declared.event.Reply.TheVariants.{Took, Empty}

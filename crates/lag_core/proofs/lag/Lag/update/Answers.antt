@@ -1,4 +1,4 @@
-use Rattle.std.proofs.Common.{◌≡◌, ◌∙◌, ◌<◌, ℕ, List, [], sym, ap, subst, refl, length, set, slice_get, Some, map, arith}
+use Rattle.std.proofs.Common.{◌≡◌, ◌<◌, List, [], sym, subst, refl, set, arith}
 use Rattle.std.proofs.lemmas.Option.{get_or_from_slice_get}
 use Rattle.listed.specs.Listed.{Listed}
 use Rattle.hash_rows.specs.declared.shape.Update.{Update as Entry}
