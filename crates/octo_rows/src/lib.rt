@@ -6,6 +6,6 @@ mod bytes;
 #[cfg(test)]
 mod faults;
 #[cfg(test)]
-mod reports;
+mod lists;
 #[cfg(test)]
 mod runs;
