@@ -1,6 +1,6 @@
 // Runs that end without a report, or with a front of it.
 
-use crate::bytes::{F1, HL, R1};
+use crate::bytes::{HEAD_OF_54, LITTLE_HEADER, TCP_FRAME};
 use crate::runs::{SMOOTH, Ways, run};
 use flow_base::Status;
 use std::alloc::Global;
@@ -27,7 +27,7 @@ fn ends(
 fn each_refusal_has_its_line(rt: HostRuntime) -> Result<(), Fail> {
     let alloc = rt.alloc();
     let refused: [(&[&[u8]], &str); 8] = [
-        (&[&HL[..23]], "octo: bad capture 1 length 23\n"),
+        (&[&LITTLE_HEADER[..23]], "octo: bad capture 1 length 23\n"),
         (&[], "octo: bad capture 1 length 0\n"),
         (&[b"\x0a\x0d\x0d\x0a"], "octo: bad capture 3 pcapng\n"),
         (&[b"\x1f\x8b\x08\0"], "octo: bad capture 2 magic 1f8b0800\n"),
@@ -36,15 +36,20 @@ fn each_refusal_has_its_line(rt: HostRuntime) -> Result<(), Fail> {
             "octo: bad capture 4 version 2.3\n",
         ),
         (
-            &[&HL[..20], b"\x71\0\0\0"],
+            &[&LITTLE_HEADER[..20], b"\x71\0\0\0"],
             "octo: bad capture 5 link 113\n",
         ),
         (
-            &[HL, R1, F1, b"\0\0\0\0\0\0\0\0\x01\0\x04\0\x01\0\x04\0"],
+            &[
+                LITTLE_HEADER,
+                HEAD_OF_54,
+                TCP_FRAME,
+                b"\0\0\0\0\0\0\0\0\x01\0\x04\0\x01\0\x04\0",
+            ],
             "octo: bad capture 6 offset 94 length 262145\n",
         ),
         (
-            &[HL, b"\0\0\0\0\0\0\0\0\xff\xff\xff\xff\0\0\0\0"],
+            &[LITTLE_HEADER, b"\0\0\0\0\0\0\0\0\xff\xff\xff\xff\0\0\0\0"],
             "octo: bad capture 6 offset 24 length 4294967295\n",
         ),
     ];
@@ -59,7 +64,15 @@ fn each_refusal_has_its_line(rt: HostRuntime) -> Result<(), Fail> {
         "run --journal",
     ];
     for line in usage {
-        assert!(rt; ends(alloc, line, &[HL], Status::Usage, "octo: usage\n")?);
+        assert!(rt;
+            ends(
+                alloc,
+                line,
+                &[LITTLE_HEADER],
+                Status::Usage,
+                "octo: usage\n"
+            )?
+        );
     }
     Ok(())
 }
@@ -74,7 +87,7 @@ fn a_failing_read_ends_the_run(rt: HostRuntime) -> Result<(), Fail> {
             failing_reads: &failing,
             ..SMOOTH
         };
-        let end = run(alloc, WORDS, &[HL, R1, F1], ways)?;
+        let end = run(alloc, WORDS, &[LITTLE_HEADER, HEAD_OF_54, TCP_FRAME], ways)?;
         assert_eq!(rt; end.status, Status::ReadFault);
         assert!(rt; end.out.held().is_empty());
         assert!(rt; end.err.held() == READ_FAULT);
@@ -85,7 +98,7 @@ fn a_failing_read_ends_the_run(rt: HostRuntime) -> Result<(), Fail> {
         ..SMOOTH
     };
     assert_eq!(rt;
-        run(alloc, WORDS, &[HL, R1, F1], later)?.status,
+        run(alloc, WORDS, &[LITTLE_HEADER, HEAD_OF_54, TCP_FRAME], later)?.status,
         Status::Done
     );
     let magic: &[u8] = b"\x1f\x8b\x08\0";
@@ -113,7 +126,7 @@ fn a_failing_read_ends_the_run(rt: HostRuntime) -> Result<(), Fail> {
 #[test]
 fn a_failing_write_leaves_whole_lines(rt: HostRuntime) -> Result<(), Fail> {
     let alloc = rt.alloc();
-    let parts = [HL, R1, F1];
+    let parts = [LITTLE_HEADER, HEAD_OF_54, TCP_FRAME];
     let whole = run(alloc, WORDS, &parts, SMOOTH)?;
     for call in 0..15u32 {
         let failing = [call];
@@ -148,7 +161,7 @@ fn a_failing_write_leaves_whole_lines(rt: HostRuntime) -> Result<(), Fail> {
 #[test]
 fn a_small_output_holds_a_front_of_the_report(rt: HostRuntime) -> Result<(), Fail> {
     let alloc = rt.alloc();
-    let parts = [HL, R1, F1];
+    let parts = [LITTLE_HEADER, HEAD_OF_54, TCP_FRAME];
     let whole = run(alloc, WORDS, &parts, SMOOTH)?;
     let small = run(alloc, WORDS, &parts, Ways { room: 30, ..SMOOTH })?;
     assert_eq!(rt; small.status, Status::WriteFault);

@@ -1,6 +1,10 @@
 // Reports of worked captures.
 
-use crate::bytes::{B1, F1, F2, F3, F4, F5, F6, HB, HL, R1, R1_MOST, R1_NONE, R2, R6, R42};
+use crate::bytes::{
+    ARP_FRAME, BIG_HEAD_OF_54, BIG_HEADER, FRAGMENT, HEAD_OF_42, HEAD_OF_50, HEAD_OF_54,
+    HEAD_OF_62, HEAD_OF_MOST, HEAD_OF_NONE, ICMP_FRAME, IPV6_FRAME, LITTLE_HEADER, TAGGED_FRAME,
+    TCP_FRAME,
+};
 use crate::runs::{SMOOTH, Ways, run};
 use flow_base::Status;
 use std::alloc::Global;
@@ -39,7 +43,7 @@ fn a_capture_is_reported(rt: HostRuntime) -> Result<(), Fail> {
         FOUR_UNUSED,
         "heavy 0\nend\n",
     ];
-    assert!(rt; reports(alloc, "run", &[HL], &empty)?);
+    assert!(rt; reports(alloc, "run", &[LITTLE_HEADER], &empty)?);
     let one = [
         HEAD,
         "records 1\nkeyed 1\n",
@@ -50,7 +54,7 @@ fn a_capture_is_reported(rt: HostRuntime) -> Result<(), Fail> {
         "flow 10.0.0.1:1234>10.0.0.2:443/6 1\nend\n",
     ];
     let words = "run --workers 1 --threshold 1 --least 1 --watch 10.0.0.1:1234>10.0.0.2:443/6";
-    assert!(rt; reports(alloc, words, &[HL, R1, F1], &one)?);
+    assert!(rt; reports(alloc, words, &[LITTLE_HEADER, HEAD_OF_54, TCP_FRAME], &one)?);
     let cut = [
         HEAD,
         "records 1\nkeyed 1\n",
@@ -59,7 +63,14 @@ fn a_capture_is_reported(rt: HostRuntime) -> Result<(), Fail> {
         FOUR_USED,
         "heavy 0\nend\n",
     ];
-    assert!(rt; reports(alloc, "run", &[HL, R1, F1, &[0; 9]], &cut)?);
+    assert!(rt;
+        reports(
+            alloc,
+            "run",
+            &[LITTLE_HEADER, HEAD_OF_54, TCP_FRAME, &[0; 9]],
+            &cut
+        )?
+    );
     Ok(())
 }
 
@@ -74,9 +85,32 @@ fn both_orders_and_all_cuttings_give_one_report(rt: HostRuntime) -> Result<(), F
         FOUR_USED,
         "heavy 0\nend\n",
     ];
-    let little = [HL, R1, F1, R1, F1, R1, F1];
+    let little = [
+        LITTLE_HEADER,
+        HEAD_OF_54,
+        TCP_FRAME,
+        HEAD_OF_54,
+        TCP_FRAME,
+        HEAD_OF_54,
+        TCP_FRAME,
+    ];
     assert!(rt; reports(alloc, "run", &little, &three)?);
-    assert!(rt; reports(alloc, "run", &[HB, B1, F1, B1, F1, B1, F1], &three)?);
+    assert!(rt;
+        reports(
+            alloc,
+            "run",
+            &[
+                BIG_HEADER,
+                BIG_HEAD_OF_54,
+                TCP_FRAME,
+                BIG_HEAD_OF_54,
+                TCP_FRAME,
+                BIG_HEAD_OF_54,
+                TCP_FRAME
+            ],
+            &three
+        )?
+    );
     assert!(rt;
         reports(
             alloc,
@@ -95,7 +129,19 @@ fn both_orders_and_all_cuttings_give_one_report(rt: HostRuntime) -> Result<(), F
 #[test]
 fn flows_of_equal_estimates_stand_by_key(rt: HostRuntime) -> Result<(), Fail> {
     let alloc = rt.alloc();
-    let frames = [HL, R1, F1, R42, F3, R2, F2, R42, F4, R42, F5];
+    let frames = [
+        LITTLE_HEADER,
+        HEAD_OF_54,
+        TCP_FRAME,
+        HEAD_OF_42,
+        ARP_FRAME,
+        HEAD_OF_50,
+        TAGGED_FRAME,
+        HEAD_OF_42,
+        FRAGMENT,
+        HEAD_OF_42,
+        ICMP_FRAME,
+    ];
     let words =
         "run --rows 2 --columns 1 --amount bytes --least 1 --watch 10.0.0.1:1234>10.0.0.2:443/6";
     let expected = [
@@ -113,7 +159,14 @@ fn flows_of_equal_estimates_stand_by_key(rt: HostRuntime) -> Result<(), Fail> {
         "flow [2001:db8:0:0:0:0:0:1]:53>[2001:db8:0:0:0:0:0:2]:1234/17 2\nend\n",
     ];
     let words = "run --rows 1 --columns 1 --least 1";
-    assert!(rt; reports(alloc, words, &[HL, R6, F6, R1, F1], &families)?);
+    assert!(rt;
+        reports(
+            alloc,
+            words,
+            &[LITTLE_HEADER, HEAD_OF_62, IPV6_FRAME, HEAD_OF_54, TCP_FRAME],
+            &families
+        )?
+    );
     Ok(())
 }
 
@@ -130,7 +183,14 @@ fn bytes_count_the_original_length(rt: HostRuntime) -> Result<(), Fail> {
         FOUR_UNUSED,
         "watch 10.0.0.1:1234>10.0.0.2:443/6 0\nheavy 0\nend\n",
     ];
-    assert!(rt; reports(alloc, words, &[HL, R1_NONE, F1], &none)?);
+    assert!(rt;
+        reports(
+            alloc,
+            words,
+            &[LITTLE_HEADER, HEAD_OF_NONE, TCP_FRAME],
+            &none
+        )?
+    );
     let most = [
         head,
         "records 1\nkeyed 1\n",
@@ -140,7 +200,14 @@ fn bytes_count_the_original_length(rt: HostRuntime) -> Result<(), Fail> {
         "watch 10.0.0.1:1234>10.0.0.2:443/6 4294967295\nheavy 1\n",
         "flow 10.0.0.1:1234>10.0.0.2:443/6 4294967295\nend\n",
     ];
-    assert!(rt; reports(alloc, words, &[HL, R1_MOST, F1], &most)?);
+    assert!(rt;
+        reports(
+            alloc,
+            words,
+            &[LITTLE_HEADER, HEAD_OF_MOST, TCP_FRAME],
+            &most
+        )?
+    );
     Ok(())
 }
 
@@ -169,7 +236,14 @@ fn a_generated_capture_is_reported(rt: HostRuntime) -> Result<(), Fail> {
         "records 2\nkeyed 2\nskipped short 0 notip 0 badip 0 tags 0\ncut 0\ntotal 2\n",
         "row 0 used 1\nwatch 10.0.0.1:1234>10.0.0.2:443/6 2\nheavy 0\nend\n",
     ];
-    assert!(rt; reports(alloc, words, &[HL, R1, F1, R1, F1], &signed)?);
+    assert!(rt;
+        reports(
+            alloc,
+            words,
+            &[LITTLE_HEADER, HEAD_OF_54, TCP_FRAME, HEAD_OF_54, TCP_FRAME],
+            &signed
+        )?
+    );
     Ok(())
 }
 
@@ -185,7 +259,7 @@ fn the_longest_record_and_other_link_bits_are_taken(rt: HostRuntime) -> Result<(
         "heavy 0\nend\n",
     ];
     let head: &[u8] = b"\0\0\0\0\0\0\0\0\0\0\x04\0\0\0\x04\0";
-    assert!(rt; reports(alloc, "run", &[HL, head, &ZEROS], &longest)?);
+    assert!(rt; reports(alloc, "run", &[LITTLE_HEADER, head, &ZEROS], &longest)?);
     let none = [
         HEAD,
         "records 0\nkeyed 0\n",
@@ -194,7 +268,14 @@ fn the_longest_record_and_other_link_bits_are_taken(rt: HostRuntime) -> Result<(
         FOUR_UNUSED,
         "heavy 0\nend\n",
     ];
-    assert!(rt; reports(alloc, "run", &[&HL[..20], b"\x01\0\x01\0"], &none)?);
+    assert!(rt;
+        reports(
+            alloc,
+            "run",
+            &[&LITTLE_HEADER[..20], b"\x01\0\x01\0"],
+            &none
+        )?
+    );
     Ok(())
 }
 
@@ -202,13 +283,13 @@ fn the_longest_record_and_other_link_bits_are_taken(rt: HostRuntime) -> Result<(
 fn a_cut_record_is_counted_and_not_read(rt: HostRuntime) -> Result<(), Fail> {
     let alloc = rt.alloc();
     let mut record = Vec::new(alloc);
-    record.extend_from_slice(R1)?;
-    record.extend_from_slice(F1)?;
+    record.extend_from_slice(HEAD_OF_54)?;
+    record.extend_from_slice(TCP_FRAME)?;
     for len in 0..70usize {
         let end = run(
             alloc,
             "run",
-            &[HL, &record[..len.min(record.len())]],
+            &[LITTLE_HEADER, &record[..len.min(record.len())]],
             SMOOTH,
         )?;
         let cut = format!(in alloc; "cut {len}\n")?;
