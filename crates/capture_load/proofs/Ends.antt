@@ -1,16 +1,16 @@
 -- What the end of input says of all the bytes that were given.
-use Rattle.std.proofs.Common.{◌≡◌, ℕ, List, [], ◌++◌, refl, sym, ap, ◌∙◌, subst, ◌⊎◌, inl, inr}
+use Rattle.std.proofs.Common.{◌≡◌, ℕ, List, [], ◌++◌, sym, ap, ◌∙◌, subst, inl, inr}
 use Rattle.std.specs.Prelude.{Option, Some, None, take, Result, Ok, Err, OnOk, IfOk, IsErrOf, MatchResult}
 use Rattle.flow_base.specs.Flow.{behind, Given}
 use Rattle.pcap_read.specs.Records.{Framed}
-use Rattle.pcap_read.specs.Capture.{CaptureOf, RefusesNext, Outcome, Whole, Refused}
+use Rattle.pcap_read.specs.Capture.{CaptureOf, Whole, Refused}
 use Rattle.pcap_read.specs.declared.bad.Bad.{Bad}
 use Rattle.pcap_read.proofs.Once.{capture_fine, one_outcome}
 use Rattle.hash_rows.specs.declared.options.Amount.{Amount}
 use Rattle.capture_load.specs.Loads.{HoldsRefusal, IsLoaded, EndsIn, record_limit}
 use Rattle.capture_load.specs.declared.capture.Capture.{Capture}
 use Rattle.capture_load.specs.declared.capture.LoadStop.{LoadStop}
-use Rattle.capture_load.specs.declared.capture.LoadStop.TheVariants.{ReadFault, Bad as BadStop, NoMemory}
+use Rattle.capture_load.specs.declared.capture.LoadStop.TheVariants.{Bad as BadStop}
 use Rattle.flow_base.proofs.FlowLemmas.{given_is}
 
 -- a capture holds no refusal

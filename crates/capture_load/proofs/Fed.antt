@@ -1,8 +1,7 @@
 -- What a reader has taken of a piece.
-use Rattle.std.proofs.Common.{◌≡◌, ◌≤◌, ◌<◌, ℕ, ◌+◌, ◌-◌, List, [], ◌++◌, length, take, drop, Option, Some, None, refl, sym, ap, ◌∙◌, subst, arith, append_assoc}
-use Rattle.std.proofs.lemmas.List.{append-nil, append_cancel_right, take_rest, take-append-drop}
+use Rattle.std.proofs.Common.{◌≡◌, ℕ, ◌+◌, ◌-◌, List, ◌++◌, length, take, drop, sym, ap, ◌∙◌, append_assoc}
+use Rattle.std.proofs.lemmas.List.{take_rest, take-append-drop}
 use Rattle.std.proofs.Math.Seq.{take-add}
-use Rattle.flow_base.specs.Flow.{behind}
 
 pub more_taken : (b piece : List ℕ) (n m : ℕ) → (b ++ take n piece) ++ take m (take (length piece - n) (drop n piece)) ≡ b ++ take (n + m) piece
 more_taken b piece n m =

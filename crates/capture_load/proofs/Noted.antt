@@ -1,7 +1,6 @@
 -- One frame more, of those that were read.
-use Rattle.std.proofs.Common.{◌≡◌, ◌<◌, ◌≤◌, ℕ, ◌+◌, List, [], ◌∷◌, ◌++◌, length, Bool, true, false, MatchBool, refl, sym, ap, ◌∙◌, subst, arith, add-zero}
-use Rattle.std.specs.Prelude.{Option, Some, None, Result, Ok, Err, count_by, cond, OnOk, not}
-use Rattle.std.specs.List.{filter_map}
+use Rattle.std.proofs.Common.{◌≡◌, ℕ, ◌+◌, List, [], ◌∷◌, ◌++◌, Bool, true, false, MatchBool, refl, sym, ap, ◌∙◌, subst, arith, add-zero}
+use Rattle.std.specs.Prelude.{Some, Result, Ok, Err, count_by, cond, OnOk, not}
 use Rattle.std.proofs.lemmas.List.{append-nil}
 use Rattle.std.proofs.lemmas.List.Elements.{filter_map-append}
 use Rattle.std.proofs.lemmas.List.Sums.{sum_by-append, sum_by-cons}
@@ -13,7 +12,7 @@ use Rattle.hash_rows.specs.declared.options.Amount.{Amount}
 use Rattle.hash_rows.specs.declared.shape.Packet.{Packet}
 use Rattle.hash_rows.specs.declared.shape.Tallies.{Tallies}
 use Rattle.pcap_read.specs.Records.{Framed}
-use Rattle.pcap_read.specs.Place.{Place, Stands}
+use Rattle.pcap_read.specs.Place.{Stands}
 use Rattle.pcap_read.specs.Takes.{TakesWhole}
 use Rattle.capture_load.specs.Loads.{Loads}
 use Rattle.capture_load.specs.Notes.{tallied}
@@ -67,21 +66,28 @@ pub after_part : (l : Loading) (bytes : List ℕ) (frames : List Framed) → Sta
 after_part l bytes frames stands packets skipped =
     ([], subst (λ (fs : List Framed). Loads l bytes fs) (sym (append-nil frames)) (record { stands = stands; packets = packets; skipped = skipped }))
 
+-- one frame more was noted
+pub after_frame : (old l : Loading) (bytes before : List ℕ) (frames : List Framed) (f : Framed) → Loads old before frames → Stands l.reader bytes (frames ++ f ∷ [])
+    → l.amount ≡ old.amount → l.packets.items ≡ old.packets.items ++ packets_of old.amount (f ∷ []) → l.skipped ≡ tallied old.skipped (key_of f.bytes)
+    → (more : List Framed) × Loads l bytes (frames ++ more)
+after_frame old l bytes before frames f loads stands amount packets skipped = (
+  f ∷ [],
+  record {
+    stands = stands;
+    packets = packets ∙ ap (λ (ps : List Packet). ps ++ packets_of old.amount (f ∷ [])) loads.packets ∙ sym (packets_append old.amount frames (f ∷ []))
+        ∙ ap (λ a. packets_of a (frames ++ f ∷ [])) (sym amount);
+    skipped = skipped ∙ ap (λ t. tallied t (key_of f.bytes)) loads.skipped ∙ sym (tallies_push frames f);
+  },
+)
+
 -- one record became whole, and was noted
 pub after_whole : (old l : Loading) (bytes before : List ℕ) (frames : List Framed) (f : Framed) → Loads old before frames → TakesWhole l.reader bytes frames → l.reader.lent ≡ Some f
     → l.amount ≡ old.amount → l.packets.items ≡ old.packets.items ++ packets_of old.amount (f ∷ []) → l.skipped ≡ tallied old.skipped (key_of f.bytes)
     → (more : List Framed) × Loads l bytes (frames ++ more)
 after_whole old l bytes before frames f loads whole lent amount packets skipped =
     let both : Some whole.next ≡ Some f = sym whole.lent ∙ lent in
-    let next : whole.next ≡ f = cc in (
-      f ∷ [],
-      record {
-        stands = subst (λ (g : Framed). Stands l.reader bytes (frames ++ g ∷ [])) next whole.stands;
-        packets = packets ∙ ap (λ (ps : List Packet). ps ++ packets_of old.amount (f ∷ [])) loads.packets ∙ sym (packets_append old.amount frames (f ∷ []))
-            ∙ ap (λ a. packets_of a (frames ++ f ∷ [])) (sym amount);
-        skipped = skipped ∙ ap (λ t. tallied t (key_of f.bytes)) loads.skipped ∙ sym (tallies_push frames f);
-      },
-    )
+    let next : whole.next ≡ f = cc in
+    after_frame old l bytes before frames f loads (subst (λ (g : Framed). Stands l.reader bytes (frames ++ g ∷ [])) next whole.stands) amount packets skipped
 
 pub when_not : (A B : Type 0) (b : Bool) → not b ≡ true → MatchBool b A B → B
 when_not A B true is h = absurd (let e : false ≡ true = is in cc)

@@ -1,12 +1,10 @@
 -- What is loaded of the bytes that a source gives.
-use Rattle.std.specs.Prelude.{◌≡◌, ◌≤◌, ◌⊎◌, ◌+◌, ◌++◌, ℕ, List, [], length, Option, Some}
+use Rattle.std.specs.Prelude.{◌≡◌, ◌≤◌, ◌⊎◌, ◌+◌, ℕ, List, [], length}
 use Rattle.pcap_read.specs.Records.{Framed}
-use Rattle.pcap_read.specs.Capture.{CaptureOf, RefusesNext, Outcome, Whole, Refused}
+use Rattle.pcap_read.specs.Capture.{CaptureOf, RefusesNext, Whole, Refused}
 use Rattle.pcap_read.specs.Place.{Stands}
 use Rattle.pcap_read.specs.declared.bad.Bad.{Bad}
 use Rattle.hash_rows.specs.declared.options.Amount.{Amount}
-use Rattle.hash_rows.specs.declared.shape.Packet.{Packet}
-use Rattle.hash_rows.specs.declared.shape.Tallies.{Tallies}
 use Rattle.capture_load.specs.Packets.{packets_of, tallies_of}
 use Rattle.capture_load.specs.declared.capture.Capture.{Capture}
 use Rattle.capture_load.specs.declared.capture.LoadStop.{LoadStop}

@@ -1,5 +1,5 @@
 -- One frame more.
-use Rattle.std.specs.Prelude.{ℕ, ◌<◌, ◌+◌, List, Result, Ok, Err}
+use Rattle.std.specs.Prelude.{ℕ, ◌<◌, ◌+◌, Result, Ok, Err}
 use Rattle.packet_key.specs.declared.key.FlowKey.{FlowKey}
 use Rattle.packet_key.specs.declared.key.Skip.{Skip}
 use Rattle.packet_key.specs.declared.key.Skip.TheVariants.{ShortFrame, NotIp, BadIp, ManyTags}

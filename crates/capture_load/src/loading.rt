@@ -60,6 +60,32 @@ impl Loading {
         ensures most { OnOk result (self.new.reader.bytes ≤ 24 + 262160 * 16777217) }
         ensures amount { self.new.amount ≡ self.old.amount }
     {
+        match self.reader.take_at_front(piece) {
+            None => self.step_in_parts(piece),
+            Some(frame) => {
+                match note(&mut self.packets, &mut self.skipped, self.amount, &frame) {
+                    Err(_) => Err(LoadStop::NoMemory),
+                    Ok(()) => Ok(16 + frame.bytes.len()),
+                }
+            }
+        }
+    }
+
+    // The same, where the record may begin before the piece or end behind it.
+    fn step_in_parts(&mut self, piece: &[u8]) -> Result<usize, LoadStop>
+        requires counts { Counts self.old }
+        requires piece { 0 < length piece.now }
+        ensures stepped { (bytes : List ℕ) (frames : List Framed) → Loads self.old bytes frames →
+            MatchResult result
+            (λ used. (more : List Framed) × Loads self.new (bytes ++ take used piece.now) (frames ++ more))
+            (StopsIn (bytes ++ piece.now)) }
+        ensures some { IfOk result (λ used. 0 < used) }
+        ensures bound { IfOk result (λ used. used ≤ length piece.now) }
+        ensures counts { OnOk result (Counts self.new) }
+        ensures bytes { IfOk result (λ used. self.new.reader.bytes ≡ self.old.reader.bytes + used) }
+        ensures most { OnOk result (self.new.reader.bytes ≤ 24 + 262160 * 16777217) }
+        ensures amount { self.new.amount ≡ self.old.amount }
+    {
         match self.reader.take(piece) {
             Err(bad) => Err(LoadStop::Bad(bad)),
             Ok(taken) => {
@@ -81,6 +107,7 @@ impl Loading {
 }
 
 // Keeps the packet of a frame, or counts why it has none.
+#[inline(always)]
 fn note(
     packets: &mut Packets,
     skipped: &mut Tallies,

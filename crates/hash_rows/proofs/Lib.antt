@@ -1,6 +1,8 @@
+pub mod Columns
 pub mod EqualKeys
 pub mod HeldRanks
 pub mod HeldSums
+pub mod KeyHashes
 pub mod Places
 pub mod RankLaws
 pub mod RowLists

@@ -2,9 +2,10 @@
 use Rattle.std.proofs.Common.{is_eq, ◌≡◌, ℕ, ℤ, ◌<ℤ◌, Bool, true, false, ◌&&◌, ◌==◌, List, inl, inr, refl, sym, ◌∙◌, ap, subst, arith, true≢false}
 use Rattle.std.proofs.lemmas.Bool.Decides.{nat_tests}
 use Rattle.std.proofs.lemmas.Slice.Eq.{bytes_eq-Decides}
-use Rattle.std.proofs.Common.{Option, Some, None, Contains, slice_get}
-use Rattle.std.specs.Option.{option_eq}
-use Rattle.heavy_keys.proofs.Members.{contains_slot}
+use Rattle.std.proofs.Common.{Contains, ◌<◌, length, map, get_or}
+use Rattle.std.proofs.lemmas.List.Elements.{Contains-get_or}
+use Rattle.hash_rows.specs.declared.shape.Packet.{Packet}
+use Rattle.heavy_keys.proofs.Members.{contains_image}
 use Rattle.std.specs.Str.{bytes_eq}
 use Rattle.std.specs.declared.cmp.Ordering.{Ordering}
 use Rattle.std.specs.declared.cmp.Ordering.TheVariants.{Less, Equal, Greater}
@@ -35,10 +36,12 @@ one_key (V6 src dst sport dport proto) (V6 src' dst' sport' dport' proto') h =
 one_key (V4 src dst sport dport proto) (V6 src' dst' sport' dport' proto') h = absurd (true≢false (sym h))
 one_key (V6 src dst sport dport proto) (V4 src' dst' sport' dport' proto') h = absurd (true≢false (sym h))
 
--- a slot that compares equal to a key holds it
-pub slot_holds : (slots : List (Option FlowKey)) (i : ℕ) (o : Option FlowKey) (k : FlowKey) → slice_get slots i ≡ Some o → option_eq same_key o (Some k) ≡ true → Contains slots (Some k)
-slot_holds slots i None k at h = absurd (true≢false (sym h))
-slot_holds slots i (Some x) k at h = subst (λ y. Contains slots (Some y)) (one_key x k h) (contains_slot slots i (Some x) at)
+-- a packet whose key compares equal to a key has it
+pub has_key : (packets : List Packet) (place : ℕ) (d : Packet) (k : FlowKey) → place < length packets → same_key (get_or packets place d).key k ≡ true
+    → Contains (map (λ p. p.key) packets) k
+has_key packets place d k inside same =
+    subst (Contains (map (λ p. p.key) packets)) (one_key (get_or packets place d).key k same)
+    (contains_image (λ (p : Packet). p.key) packets (get_or packets place d) (Contains-get_or packets place d inside))
 
 pub exact_key : (a b : FlowKey) → key_order a b ≡ Equal → a ≡ b
 exact_key a b h = one_key a b (matches_eq-law a b ∙ ap is_eq h)

@@ -4,3 +4,4 @@ pub mod LiveLemmas
 pub mod Members
 pub mod KeyOrder
 pub mod RankLemmas
+pub mod RankOrder

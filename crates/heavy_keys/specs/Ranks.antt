@@ -1,5 +1,5 @@
 -- Flows in a set by rank: the greatest estimate first, of equal ones the least key.
-use Rattle.std.specs.Prelude.{◌≡◌, ℤ, ◌≤ℤ◌, List, Contains, Option, Some}
+use Rattle.std.specs.Prelude.{◌≡◌, ℤ, ◌≤ℤ◌, List, Contains}
 use Rattle.std.specs.Ordering.{int_cmp, ordering_then}
 use Rattle.std.specs.declared.cmp.Ordering.{Ordering}
 use Rattle.std.specs.declared.cmp.Reverse.{Reverse}
@@ -24,7 +24,3 @@ flow_of rank = record { key = rank.1; estimate = rank.0.0 }
 pub record AreHeavy (estimate_of : FlowKey → ℤ) (least : ℤ) (keys : List FlowKey) (ranks : List Rank) : Type 0 where
   pub sound : (rank : Rank) → Contains ranks rank → Contains keys rank.1 × (rank.0.0 ≡ estimate_of rank.1) × (least ≤ℤ rank.0.0)
   pub whole : (key : FlowKey) → Contains keys key → least ≤ℤ estimate_of key → Contains ranks (rank_of (estimate_of key) key)
-
--- each key that is kept is one of these
-abbrev pub AreSeen : List FlowKey → List (Option FlowKey) → Type 0
-AreSeen keys slots = (key : FlowKey) → Contains slots (Some key) → Contains keys key

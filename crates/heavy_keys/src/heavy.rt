@@ -1,12 +1,14 @@
-ghost use Rattle.std.specs.Prelude.{◌≡◌, ◌<◌, ◌≤◌, ◌+◌, ◌++◌, ◌∷◌, [], false, List, length, slice_get, Some, IfOk};
+ghost use Rattle.std.specs.Prelude.{◌≡◌, ◌<◌, ◌≤◌, ◌+◌, ◌++◌, ◌∷◌, [], true, false, List, length, slice_get, Some, IfOk, IsTrue};
 ghost use Rattle.indexmap.specs.IndexMap.{keys as keys_of_map, spare};
 ghost use Rattle.heavy_keys.specs.Noted.{fresh_table, is_due, noted};
 ghost use Rattle.heavy_keys.specs.Live.{HoldsLive};
 ghost use Rattle.hash_rows.specs.declared.shape.Flow.{Flow};
 ghost use Rattle.push_history.specs.LiveHeavy.{is_among};
 
+use crate::recent::{SLOTS, slot_of};
 use flow_base::NoMemory;
 use indexmap::IndexMap;
+use listed::Listed;
 use packet_key::FlowKey;
 use std::alloc::Global;
 use std::marker::Model;
@@ -16,13 +18,15 @@ use std::marker::Model;
 #[derive(Drop)]
 pub struct Heavy {
     keys: IndexMap<FlowKey, ()>,
+    // The places of keys, by which most are found at once.
+    slots: Listed<u32>,
     missed: u64,
     limit: u32,
     least: i64,
 }
 
 impl Model for Heavy {
-    ghost use Rattle.std.specs.Prelude.{ℕ, ◌≤◌, ◌+◌, length};
+    ghost use Rattle.std.specs.Prelude.{ℕ, ◌≡◌, ◌≤◌, ◌+◌, length};
     ghost use Rattle.indexmap.specs.IndexMap.{keys as keys_of_map, spare};
     ghost use Rattle.heavy_keys.specs.Noted.{HeavyTable};
 
@@ -30,7 +34,7 @@ impl Model for Heavy {
 
     ghost view = { λ h. record { keys = keys_of_map h.keys; missed = h.missed; limit = h.limit; least = h.least } };
 
-    ghost invariant = { λ h. (length (keys_of_map h.keys) ≤ h.limit) × (h.limit ≤ length (keys_of_map h.keys) + spare h.keys) };
+    ghost invariant = { λ h. (length (keys_of_map h.keys) ≤ h.limit) × (h.limit ≤ length (keys_of_map h.keys) + spare h.keys) × (length h.slots.items ≡ 16384) };
 }
 
 impl Heavy {
@@ -40,9 +44,11 @@ impl Heavy {
         ensures fresh { IfOk result (λ table. table ≡ fresh_table limit least) }
         ensures live { IfOk result (λ table. HoldsLive table []) }
     {
+        let slots = Listed::filled(alloc, SLOTS, 0)?;
         match IndexMap::with_capacity(alloc, limit as usize) {
             Ok(keys) => Ok(Heavy {
                 keys,
+                slots,
                 missed: 0,
                 limit,
                 least,
@@ -58,6 +64,7 @@ impl Heavy {
     {
         if self.is_due(&key, estimate) {
             if self.keys.len() < self.limit as usize {
+                self.slots.set(slot_of(&key), self.keys.len() as u32);
                 add_last(&mut self.keys, key);
             } else {
                 self.missed = self.missed.saturating_add(1);
@@ -69,7 +76,24 @@ impl Heavy {
     fn is_due(&self, key: &FlowKey, estimate: i64) -> bool
         ensures { result ≡ is_due self.now key.now estimate }
     {
-        self.least <= estimate && !self.keys.contains_key(key)
+        self.least <= estimate && !self.has_key(key)
+    }
+
+    fn has_key(&self, key: &FlowKey) -> bool
+        ensures { result ≡ is_among self.now.keys key.now }
+    {
+        self.is_found(key) || self.keys.contains_key(key)
+    }
+
+    // Whether the key stands at the place in its slot. One that doesn't may stand elsewhere.
+    fn is_found(&self, key: &FlowKey) -> bool
+        ensures { IsTrue result → is_among self.now.keys key.now ≡ true }
+    {
+        let place = *self.slots.get(slot_of(key));
+        match self.keys.get_index(place as usize) {
+            Some((known, _)) => *known == *key,
+            None => false,
+        }
     }
 
     pub fn len(&self) -> u32

@@ -1,4 +1,4 @@
-ghost use Rattle.std.specs.Prelude.{◌≡◌, ◌+◌, ◌≤◌, ◌<◌, length};
+ghost use Rattle.std.specs.Prelude.{◌≡◌, ◌+◌, ◌≤◌, ◌<◌, ◌/◌, ◌%◌, ◌==◌, ◌||◌, not, nat_lt, length};
 ghost use Rattle.packet_key.specs.Frame.{u16_of, u32_of, address_at, has_ports, payload_place, shows_ports, key_at, packet_at, shows_ports6, key6_at, packet6_at, announced, is_tag, key_behind, key_of};
 
 use crate::{FlowKey, Skip};
@@ -55,6 +55,7 @@ fn payload_at(frame: &[u8], p: usize) -> usize
     p + 4 * (frame[p] % 16) as usize
 }
 
+#[inline(always)]
 #[tactic(auto, unfolding(crate::specs::Frame::shows_ports, crate::specs::Frame::payload_place))]
 fn v4_shows_ports(frame: &[u8], p: usize) -> bool
     requires fixed { p + 20 ≤ length frame.now }
@@ -66,6 +67,7 @@ fn v4_shows_ports(frame: &[u8], p: usize) -> bool
         && frame.len() >= payload_at(frame, p) + 4
 }
 
+#[inline(always)]
 #[tactic(auto, unfolding(crate::specs::Frame::key_at, crate::specs::Frame::shows_ports, crate::specs::Frame::payload_place))]
 fn v4_key(frame: &[u8], p: usize) -> FlowKey
     requires fixed { p + 20 ≤ length frame.now }
@@ -87,6 +89,14 @@ fn v4_key(frame: &[u8], p: usize) -> FlowKey
     }
 }
 
+// Version 4, and a header of at least five words.
+fn begins_v4(first: u8) -> bool
+    ensures { result ≡ not (not (first / 16 == 4) || nat_lt (first % 16) 5) }
+{
+    first >= 0x45 && first <= 0x4f
+}
+
+#[inline(always)]
 #[tactic(auto, unfolding(crate::specs::Frame::packet_at, crate::specs::Frame::payload_place))]
 fn read_v4(frame: &[u8], p: usize) -> Result<FlowKey, Skip>
     requires small { p < 100 }
@@ -96,7 +106,7 @@ fn read_v4(frame: &[u8], p: usize) -> Result<FlowKey, Skip>
         return Err(Skip::ShortFrame);
     }
     let first = frame[p];
-    if first / 16 != 4 || first % 16 < 5 {
+    if !begins_v4(first) {
         return Err(Skip::BadIp);
     }
     if frame.len() < payload_at(frame, p) {
@@ -105,6 +115,7 @@ fn read_v4(frame: &[u8], p: usize) -> Result<FlowKey, Skip>
     Ok(v4_key(frame, p))
 }
 
+#[inline(always)]
 #[tactic(auto, unfolding(crate::specs::Frame::key6_at, crate::specs::Frame::shows_ports6))]
 fn v6_key(frame: &[u8], p: usize) -> FlowKey
     requires fixed { p + 40 ≤ length frame.now }
@@ -126,6 +137,7 @@ fn v6_key(frame: &[u8], p: usize) -> FlowKey
     }
 }
 
+#[inline(always)]
 #[tactic(auto, unfolding(crate::specs::Frame::packet6_at))]
 fn read_v6(frame: &[u8], p: usize) -> Result<FlowKey, Skip>
     requires small { p < 100 }
@@ -140,6 +152,7 @@ fn read_v6(frame: &[u8], p: usize) -> Result<FlowKey, Skip>
     Ok(v6_key(frame, p))
 }
 
+#[inline(always)]
 #[tactic(auto, unfolding(crate::specs::Frame::announced))]
 fn read_announced(ethertype: u16, frame: &[u8], p: usize) -> Result<FlowKey, Skip>
     requires small { p < 100 }
@@ -162,6 +175,7 @@ fn is_tag(ethertype: u16) -> bool
 ///
 /// Ports are those of TCP and UDP, and 0 in a later fragment, where the frame ends before them, and
 /// for any other protocol. Extension headers of IPv6 are not read, nor are lengths and checksums.
+#[inline(always)]
 #[tactic(auto, unfolding(crate::specs::Frame::key_of))]
 pub fn read_frame(frame: &[u8]) -> Result<FlowKey, Skip>
     ensures { result ≡ key_of frame.now }

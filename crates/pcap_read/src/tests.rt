@@ -174,6 +174,26 @@ fn frames_are_lent_and_a_refusal_is_kept(rt: HostRuntime) -> Result<(), Fail> {
 }
 
 #[test]
+fn a_whole_record_is_lent_from_the_piece(rt: HostRuntime) -> Result<(), Fail> {
+    let mut reader = Reader::new(rt.alloc(), 2)?;
+    assert!(rt; reader.take_at_front(HL).is_none());
+    assert!(rt; reader.take(HL).is_ok());
+    assert!(rt; reader.take_at_front(&REC[..69]).is_none());
+    let input = joined(rt.alloc(), &[REC, REC])?;
+    match reader.take_at_front(&input) {
+        Some(frame) => {
+            assert_eq!(rt; frame.original, 54);
+            assert_eq!(rt; frame.bytes, &REC[16..]);
+        }
+        None => assert!(rt; false),
+    }
+    assert!(rt; reader.take(&REC[..9]).is_ok());
+    assert!(rt; reader.take_at_front(REC).is_none());
+    assert_eq!(rt; reader.end(), Ok(9));
+    Ok(())
+}
+
+#[test]
 fn the_laws_are_called() {
     one_reading();
     refusal_stays();

@@ -1,6 +1,4 @@
-use Rattle.std.proofs.Common.{rules, ◌≡◌, sym, subst, refl, []}
-use Rattle.pcap_read.specs.Place.{Place, Stands, start_of}
-use Rattle.capture_load.specs.Loads.{Loads}
+use Rattle.std.proofs.Common.{refl}
 use Rattle.capture_load.specs.Packets.{packets_of, tallies_of}
 use Rattle.capture_load.proofs.load.begin.Goals as goal
 

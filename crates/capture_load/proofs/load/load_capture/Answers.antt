@@ -1,13 +1,12 @@
-use Rattle.std.proofs.Common.{rules, arith, sym, ap, subst, inl, ◌≡◌, ◌≤◌, ◌++◌, ◌∙◌, List, ℕ, take, Some}
+use Rattle.std.proofs.Common.{arith, sym, ap, subst, inl, ◌≡◌, ◌++◌, ◌∙◌, List, ℕ, take}
 use Rattle.flow_base.specs.Flow.{behind}
 use Rattle.flow_base.proofs.FlowLemmas.{behind-append, given_is}
-use Rattle.pcap_read.specs.Records.{Framed}
 use Rattle.pcap_read.specs.Capture.{RefusesNext}
 use Rattle.pcap_read.proofs.Exact.{stood_fine}
 use Rattle.std.specs.Prelude.{MatchResult}
 use Rattle.capture_load.specs.Loads.{StopsIn, EndsIn, IsLoaded, record_limit}
 use Rattle.capture_load.specs.declared.capture.LoadStop.TheVariants.{Bad as BadStop}
-use Rattle.capture_load.proofs.Ends.{ends_fine, ends_whole, ends_bad, stop_of, ended}
+use Rattle.capture_load.proofs.Ends.{ends_fine, stop_of, ended}
 use Rattle.capture_load.proofs.load.load_capture.Goals as goal
 
 pub returns-in-Err-clause-unrefused : goal.returns-in-Err-clause-unrefused

@@ -1,4 +1,4 @@
-use Rattle.std.proofs.Common.{◌≡◌, ◌≤◌, ◌+◌, ◌-◌, ◌*◌, ℕ, List, length}
+use Rattle.std.proofs.Common.{◌≡◌, ◌≤◌, ◌+◌, ◌-◌, ◌*◌, ℕ, List}
 use Rattle.flow_base.specs.Flow.{behind}
 use Rattle.pcap_read.specs.Records.{Framed}
 use Rattle.capture_load.specs.Loads.{Loads, Counts}

@@ -1,4 +1,4 @@
-use Rattle.std.proofs.Common.{◌≡◌, ◌∙◌, sym, ap, ◌++◌, ◌∷◌, [], List}
+use Rattle.std.proofs.Common.{◌∙◌, sym, ap, ◌++◌, ◌∷◌, [], List}
 use Rattle.std.proofs.lemmas.List.{append-nil}
 use Rattle.hash_rows.specs.declared.shape.Packet.{Packet}
 use Rattle.pcap_read.specs.Records.{Framed}

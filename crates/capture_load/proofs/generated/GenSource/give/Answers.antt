@@ -1,4 +1,4 @@
-use Rattle.std.proofs.Common.{rules, ◌≡◌, ◌∙◌, sym, ap, ◌≤◌, ◌+◌, ◌-◌, ◌++◌, List, ℕ, take, drop, arith, length}
+use Rattle.std.proofs.Common.{rules, ◌≡◌, ◌∙◌, sym, ap, ◌+◌, ◌++◌, List, ℕ, take, drop, arith, length}
 use Rattle.capture_load.specs.Generated.{generated_from}
 use Rattle.capture_load.proofs.Parts.{given_part, put_front}
 use Rattle.capture_load.proofs.generated.GenSource.give.Goals as goal

@@ -1,4 +1,4 @@
-use Rattle.std.proofs.Common.{rules, ◌≡◌, ◌∙◌, sym, ap, ◌++◌, List, ℕ, take}
+use Rattle.std.proofs.Common.{ap, ◌++◌, List, ℕ}
 use Rattle.capture_load.specs.Generated.{generated, generated_from}
 use Rattle.capture_load.proofs.generated.GenSource.new.Goals as goal
 

@@ -1,4 +1,4 @@
-use Rattle.std.proofs.Common.{rules, ◌≡◌, ◌∙◌, sym, ap, ◌++◌, ◌+◌, ◌-◌, List, ℕ, take, drop}
+use Rattle.std.proofs.Common.{◌∙◌, sym, ap, ◌++◌, ◌+◌, ◌-◌, List, ℕ}
 use Rattle.capture_load.specs.Generated.{generated_from}
 use Rattle.capture_load.proofs.Parts.{next_record, whole_part, ended}
 use Rattle.capture_load.proofs.generated.GenSource.turn.Goals as goal

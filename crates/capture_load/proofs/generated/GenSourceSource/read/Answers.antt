@@ -1,4 +1,4 @@
-use Rattle.std.proofs.Common.{rules, ◌≡◌, ◌∙◌, sym, ap}
+use Rattle.std.proofs.Common.{◌∙◌, sym}
 use Rattle.capture_load.proofs.Parts.{nothing_left}
 use Rattle.capture_load.proofs.generated.GenSourceSource.read.Goals as goal
 

@@ -1,8 +1,7 @@
-use Rattle.std.proofs.Common.{rules, arith, refl, sym, subst, ◌≡◌, ◌≤◌, ◌+◌, ◌*◌, ◌-◌, ◌++◌, ◌<◌, ◌∙◌, List, [], ℕ, length, take, drop, length-take, length-drop, append_assoc}
-use Rattle.std.proofs.lemmas.List.{append-nil}
+use Rattle.std.proofs.Common.{arith, subst, ◌≤◌, ◌+◌, ◌-◌, ◌++◌, ◌∙◌, List, ℕ, length, take, drop, length-take, append_assoc}
 use Rattle.pcap_read.specs.Records.{Framed}
-use Rattle.capture_load.specs.Loads.{Loads, StopsIn}
-use Rattle.capture_load.proofs.Fed.{more_taken, rest_taken}
+use Rattle.capture_load.specs.Loads.{Loads}
+use Rattle.capture_load.proofs.Fed.{more_taken}
 use Rattle.capture_load.proofs.loading.Loading.feed.Goals as goal
 
 pub loop-at-preserved : goal.loop-at-preserved
