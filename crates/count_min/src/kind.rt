@@ -1,10 +1,14 @@
-ghost use Rattle.std.specs.Prelude.{pos, true, refl};
+ghost use Rattle.std.specs.Prelude.{◌≡◌, ◌<◌, ◌^◌, ◌≤ℤ◌, List, length, pos, true, refl};
 ghost use Rattle.hash_rows.proofs.HeldSums.{fresh_sums, sums_for_values, small_sums, small_sums_back};
 ghost use Rattle.hash_rows.proofs.SumLaws.{count_min_lawful};
-ghost use Rattle.hash_rows.specs.Rules.{sums};
+ghost use Rattle.hash_rows.specs.Amounts.{key_amount, total_amount};
+ghost use Rattle.hash_rows.specs.Rules.{AreValues, sums};
+ghost use Rattle.hash_rows.specs.Sequential.{sequential_table};
+ghost use Rattle.hash_rows.specs.Shapes.{IsShape, size_of};
 ghost use Rattle.hash_rows.specs.Sketches.{count_min_value, count_min_estimate, small_gap};
 ghost use Rattle.hash_rows.specs.Sums.{StandsForSums};
 ghost use Rattle.hash_rows.specs.declared.options.Sketch.TheVariants.{CountMin as CountMinSketch};
+ghost use Rattle.hash_rows.specs.declared.shape.Packet.{Packet as PacketView};
 
 use hash_rows::{Kind, Packet, Shape, Sketch, SumHeld, cell_in_row, hash_in_row, key_hash};
 use packet_key::FlowKey;
@@ -62,7 +66,17 @@ impl Kind for CountMin {
         i64::from(packet.amount)
     }
 
-    fn estimate(shape: &Shape, cells: &[i64], key: &FlowKey) -> i64 {
+    /// The least of the key's cells. On the table of some packets it is never below what the key's
+    /// packets amount to (Cormode, Muthukrishnan, 2005, section 4.1).
+    fn estimate(shape: &Shape, cells: &[i64], key: &FlowKey) -> i64
+        requires shape { IsShape shape.now }
+        requires cells { length cells.now ≡ size_of shape.now }
+        requires values { AreValues (sums count_min_value count_min_estimate) cells.now }
+        ensures exact { result ≡ count_min_estimate shape.now cells.now key.now }
+        ensures never_below { (packets : List PacketView) → total_amount packets < 2 ^ 63 →
+            cells.now ≡ (sequential_table (sums count_min_value count_min_estimate) shape.now packets).cells →
+            pos (key_amount packets key.now) ≤ℤ result }
+    {
         let base = key_hash(key);
         let mut least = i64::MAX;
         for row in 0..shape.rows {

@@ -2,7 +2,5 @@
 #![tactic(auto)]
 
 mod kind;
-mod laws;
 
 pub use kind::CountMin;
-pub use laws::count_min_is_never_below;

@@ -1,4 +1,4 @@
-use count_min::{CountMin, count_min_is_never_below};
+use count_min::CountMin;
 use count_sketch::CountSketch;
 use hash_rows::{Kind, Packet, Shape, Sketch, Table, cell_of, row_hash};
 use loglog_regs::{LogLog, distinct};
@@ -85,7 +85,6 @@ fn check_all<K: Kind>(rt: &impl Abort, alloc: Global, row: &Row) -> Result<(), F
 
 #[test]
 fn count_min_adds_the_amount(rt: HostRuntime) -> Result<(), Fail> {
-    count_min_is_never_below();
     let row = Row {
         sketch: Sketch::CountMin,
         keyed: true,

@@ -1,5 +1,0 @@
-use Rattle.count_min.proofs.NeverBelow.{never_below}
-use Rattle.count_min.proofs.laws.count_min_is_never_below.Goals as goal
-
-pub returns : goal.returns
-returns c = λ shape packets key lawful total. never_below shape lawful packets key total
