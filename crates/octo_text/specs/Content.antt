@@ -1,27 +1,14 @@
 -- What a journal tells.
-use Rattle.std.specs.Prelude.{◌≡◌, length, map, ◌≤◌, All}
+use Rattle.std.specs.Prelude.{◌≡◌, ℕ, Bool, List, length, ◌≤◌, All}
 use Rattle.hash_rows.specs.declared.answer.Answer.{Answer}
 use Rattle.hash_rows.specs.declared.options.Options.{Options}
 use Rattle.hash_rows.specs.Lawful.{IsLawful}
-use Rattle.hash_rows.specs.Marks.{marked}
-use Rattle.push_history.specs.Answers.{AnswerParts}
-use Rattle.push_history.specs.Journal.{Journal as Content, with_journal, keys_of}
+use Rattle.push_history.specs.Journal.{Journal as Content, journal_in, keys_of}
 use Rattle.octo_text.specs.declared.journal.Journal.{Journal}
-
--- what is written of an answer
-unfoldable pub parts_of : Answer → AnswerParts
-parts_of a = record { reader = a.reader; number = a.number; folded = a.folded; front = a.front.items; shown = a.shown.items }
 
 -- the refused updates are those whose bits are set
 unfoldable pub content_of : Journal → Content
-content_of j = record {
-  options = with_journal j.options;
-  refused = map marked j.refused.items;
-  pushes = j.pushes.items;
-  answers = map parts_of j.answers.items;
-  live = j.live.items;
-  missed = j.missed;
-}
+content_of j = journal_in j.options j.refused.items j.pushes.items j.answers.items j.live.items j.missed
 
 -- one front number for each worker, and one estimate for each asked key
 pub record IsAnswerFor (o : Options) (a : Answer) : Type 0 where
@@ -29,11 +16,15 @@ pub record IsAnswerFor (o : Options) (a : Answer) : Type 0 where
   pub shown : length a.shown.items ≡ length (keys_of o)
 
 -- the options are lawful, and each worker and each answer is told of as they ask
-pub record IsComplete (j : Journal) : Type 0 where
-  pub options : IsLawful j.options
-  pub refused : length j.refused.items ≡ j.options.workers
-  pub pushes : length j.pushes.items ≡ j.options.workers
-  pub answers : All (IsAnswerFor j.options) j.answers.items
+pub record AreComplete (o : Options) (refused : List (List Bool)) (pushes : List ℕ) (answers : List Answer) : Type 0 where
+  pub lawful : IsLawful o
+  pub refused_len : length refused ≡ o.workers
+  pub pushes_len : length pushes ≡ o.workers
+  pub answers_fit : All (IsAnswerFor o) answers
+
+-- the same of a journal
+abbrev pub IsComplete : Journal → Type 0
+IsComplete j = AreComplete j.options j.refused.items j.pushes.items j.answers.items
 
 -- so few numbers that the answer's line is short
 pub record FitsLine (a : Answer) : Type 0 where

@@ -2,6 +2,7 @@
 use Rattle.std.specs.Prelude.{ℕ, ℤ, List, ◌++◌, length, codes, decimal, zip}
 use Rattle.std.specs.Fmt.{signed_decimal}
 use Rattle.std.specs.List.{flat_map, enumerate_from}
+use Rattle.packet_key.specs.declared.key.FlowKey.{FlowKey}
 use Rattle.hash_rows.specs.declared.options.Options.{Options}
 use Rattle.hash_rows.specs.OptionTexts.{share_text, full_text, mode_text}
 use Rattle.push_history.specs.Answers.{AnswerParts}
@@ -78,8 +79,8 @@ unfoldable pub terms_lines : Options → List ℕ
 terms_lines o = options_line o ++ flat_map (key_line (codes "watched")) o.watch.items
 
 -- the live heavy keys, and how many messages they have no place for
-unfoldable pub live_lines : Journal → List ℕ
-live_lines j = flat_map (key_line (codes "live")) j.live ++ count_line (codes "missed") j.missed
+unfoldable pub live_lines : List FlowKey → ℕ → List ℕ
+live_lines live missed = flat_map (key_line (codes "live")) live ++ count_line (codes "missed") missed
 
 -- the journal
 unfoldable pub journal_text : Journal → List ℕ
@@ -88,5 +89,5 @@ journal_text j =
     ++ terms_lines j.options
     ++ flat_map worker_lines (enumerate_from 0 (zip j.pushes j.refused))
     ++ flat_map answer_line j.answers
-    ++ live_lines j
+    ++ live_lines j.live j.missed
     ++ words_line (codes "end")

@@ -2,7 +2,8 @@ ghost use Rattle.std.specs.Prelude.{◌≡◌, ◌+◌, ◌*◌, ◌<◌, ◌≤
 ghost use Rattle.std.specs.List.{flat_map};
 ghost use Rattle.flow_base.specs.Causes.{HasCause};
 ghost use Rattle.flow_base.specs.Writing.{Writes};
-ghost use Rattle.octo_text.specs.Content.{parts_of, FitsLine};
+ghost use Rattle.octo_text.specs.Content.{FitsLine};
+ghost use Rattle.push_history.specs.Answers.{parts_of};
 ghost use Rattle.octo_text.specs.JournalText.{answer_line, spaced, spaced_signed};
 
 use crate::line::Line;
@@ -31,7 +32,7 @@ fn put_estimates(line: &mut Line, estimates: &[i64])
     }
 }
 
-#[tactic(auto, unfolding(crate::specs::JournalText::answer_line, crate::specs::Content::parts_of))]
+#[tactic(auto, unfolding(crate::specs::JournalText::answer_line, push_history::specs::Answers::parts_of))]
 fn write_answer<T: Sink>(out: &mut T, answer: &Answer) -> Result<(), Failed>
     requires { FitsLine answer.now }
     ensures writes { Writes (T.holds out.old) (T.holds out.new) (answer_line (parts_of answer.now)) result }

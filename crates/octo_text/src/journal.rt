@@ -2,8 +2,8 @@ ghost use Rattle.std.specs.Prelude.{◌≡◌, ◌+◌, ◌*◌, ◌<◌, ◌≤
 ghost use Rattle.std.specs.List.{flat_map, enumerate_from};
 ghost use Rattle.flow_base.specs.Causes.{HasCause};
 ghost use Rattle.flow_base.specs.Writing.{Writes};
-ghost use Rattle.push_history.specs.Journal.{with_journal};
-ghost use Rattle.octo_text.specs.Content.{content_of, IsComplete};
+ghost use Rattle.push_history.specs.Journal.{journal_in, with_journal};
+ghost use Rattle.octo_text.specs.Content.{content_of, AreComplete, IsComplete};
 ghost use Rattle.octo_text.specs.Lines.{words_line, count_line, key_line};
 ghost use Rattle.octo_text.specs.JournalText.{share_words, lane_words, query_words, options_line, terms_lines, live_lines, journal_text};
 
@@ -97,26 +97,54 @@ fn write_terms<T: Sink>(out: &mut T, options: &Options) -> Result<(), Failed>
     write_keys(out, b"watched", options.watch.as_slice())
 }
 
-fn write_live<T: Sink>(out: &mut T, journal: &Journal) -> Result<(), Failed>
-    ensures writes { Writes (T.holds out.old) (T.holds out.new) (live_lines (content_of journal.now)) result }
+fn write_live<T: Sink>(out: &mut T, live: &Keys, missed: u64) -> Result<(), Failed>
+    ensures writes { Writes (T.holds out.old) (T.holds out.new) (live_lines live.now.items missed) result }
     ensures cause { HasCause (T.faults out.old) (T.faults out.new) result }
 {
-    write_keys(out, b"live", journal.live.as_slice())?;
-    write_count(out, b"missed", journal.missed)
+    write_keys(out, b"live", live.as_slice())?;
+    write_count(out, b"missed", missed)
 }
 
-/// Writes the journal's text, each line as one piece. It takes no memory.
+/// Writes the text of the journal that these lists tell, each line as one piece. It takes no
+/// memory.
 ///
 /// After an error the sink holds a proper front of the text.
+pub fn write_journal_in<T: Sink>(
+    out: &mut T,
+    options: &Options,
+    refused: &BitRows,
+    pushes: &Counts,
+    answers: &Answers,
+    live: &Keys,
+    missed: u64,
+) -> Result<(), Failed>
+    requires { AreComplete options.now refused.now.items pushes.now.items answers.now.items }
+    ensures writes { Writes (T.holds out.old) (T.holds out.new)
+        (journal_text (journal_in options.now refused.now.items pushes.now.items answers.now.items live.now.items missed)) result }
+    ensures cause { HasCause (T.faults out.old) (T.faults out.new) result }
+{
+    write_words(out, b"octosketch journal 1")?;
+    write_terms(out, options)?;
+    write_workers(out, pushes.as_slice(), refused.as_slice())?;
+    write_answers(out, answers.as_slice())?;
+    write_live(out, live, missed)?;
+    write_words(out, b"end")
+}
+
+/// Writes the journal's text in the same way.
+#[tactic(auto, unfolding(crate::specs::Content::content_of))]
 pub fn write_journal<T: Sink>(out: &mut T, journal: &Journal) -> Result<(), Failed>
     requires { IsComplete journal.now }
     ensures writes { Writes (T.holds out.old) (T.holds out.new) (journal_text (content_of journal.now)) result }
     ensures cause { HasCause (T.faults out.old) (T.faults out.new) result }
 {
-    write_words(out, b"octosketch journal 1")?;
-    write_terms(out, &journal.options)?;
-    write_workers(out, journal.pushes.as_slice(), journal.refused.as_slice())?;
-    write_answers(out, journal.answers.as_slice())?;
-    write_live(out, journal)?;
-    write_words(out, b"end")
+    write_journal_in(
+        out,
+        &journal.options,
+        &journal.refused,
+        &journal.pushes,
+        &journal.answers,
+        &journal.live,
+        journal.missed,
+    )
 }

@@ -11,7 +11,7 @@ mod report;
 mod runs;
 mod workers;
 
-pub use journal::{Journal, write_journal};
+pub use journal::{Journal, write_journal, write_journal_in};
 pub use laws::maximal_runs;
 pub use line::Line;
 pub use report::{Report, write_report};

@@ -2,6 +2,7 @@
 use Rattle.std.specs.Prelude.{ℕ, ℤ, ◌==◌, ◌∷◌, List, [], Bool, false, if◌then◌else◌, length, take, map}
 use Rattle.std.specs.List.{flat_map, enumerate_from, range_with_len}
 use Rattle.packet_key.specs.declared.key.FlowKey.{FlowKey}
+use Rattle.hash_rows.specs.declared.answer.Answer.{Answer}
 use Rattle.hash_rows.specs.declared.shape.Shape.{Shape}
 use Rattle.push_history.specs.declared.event.Event.{Event}
 use Rattle.push_history.specs.declared.event.Event.TheVariants.{Ask}
@@ -16,6 +17,10 @@ pub record AnswerParts : Type 0 where
   pub folded : ℕ
   pub front : List ℕ
   pub shown : List ℤ
+
+-- what is written of an answer
+unfoldable pub parts_of : Answer → AnswerParts
+parts_of a = record { reader = a.reader; number = a.number; folded = a.folded; front = a.front.items; shown = a.shown.items }
 
 -- whether the event is an ask of the reader
 abbrev pub is_ask : ℕ → Event → Bool

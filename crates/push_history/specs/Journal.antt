@@ -1,19 +1,21 @@
 -- What the journal of a run says.
-use Rattle.std.specs.Prelude.{ℕ, ◌∷◌, List, [], true, length, map}
+use Rattle.std.specs.Prelude.{ℕ, ◌∷◌, List, [], Bool, true, length, map}
 use Rattle.std.specs.List.{range_with_len}
 use Rattle.packet_key.specs.declared.key.FlowKey.{FlowKey}
+use Rattle.hash_rows.specs.declared.answer.Answer.{Answer}
 use Rattle.hash_rows.specs.declared.options.Options.{Options}
 use Rattle.hash_rows.specs.declared.options.Sketch.{Sketch}
 use Rattle.hash_rows.specs.declared.options.Sketch.TheVariants.{LogLog}
 use Rattle.hash_rows.specs.declared.shape.Packet.{Packet}
 use Rattle.hash_rows.specs.declared.shape.Update.{Update}
+use Rattle.hash_rows.specs.Marks.{marked}
 use Rattle.hash_rows.specs.Rules.{Rules, rules_of}
 use Rattle.push_history.specs.declared.event.Event.{Event}
 use Rattle.push_history.specs.Share.{share_of_worker, zero_key}
 use Rattle.push_history.specs.Updates.{updates_of}
 use Rattle.push_history.specs.LiveHeavy.{live_keys, missed_keys}
 use Rattle.push_history.specs.LagRun.{Terms, lag_run}
-use Rattle.push_history.specs.Answers.{AnswerParts, answers_of}
+use Rattle.push_history.specs.Answers.{AnswerParts, answers_of, parts_of}
 
 -- the options; each worker's refused updates and its number of pushes; the answers by reader, then by number; the live
 -- keys and how many were missed
@@ -28,6 +30,17 @@ pub record Journal : Type 0 where
 -- the options, with the journal asked for
 unfoldable pub with_journal : Options → Options
 with_journal o = record o { journal = true }
+
+-- the journal that these lists tell: the refused updates of a worker are those whose bits are set
+abbrev pub journal_in : Options → List (List Bool) → List ℕ → List Answer → List FlowKey → ℕ → Journal
+journal_in o bits pushes answers live missed = record {
+  options = with_journal o;
+  refused = map marked bits;
+  pushes = pushes;
+  answers = map parts_of answers;
+  live = live;
+  missed = missed;
+}
 
 -- the keys that each ask asks for
 abbrev pub asked_keys : Sketch → List FlowKey → List FlowKey

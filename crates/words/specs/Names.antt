@@ -27,4 +27,5 @@ line_names = an_option (codes "rows")
     ∷ an_option (codes "records")
     ∷ an_option (codes "start")
     ∷ an_option (codes "full")
+    ∷ a_flag (codes "journal")
     ∷ []

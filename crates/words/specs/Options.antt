@@ -1,5 +1,5 @@
 -- The commands that words give.
-use Rattle.std.specs.Prelude.{◌≡◌, ◌∷◌, ◌||◌, ℕ, Bool, true, false, not, List, None, is_some, codes}
+use Rattle.std.specs.Prelude.{◌≡◌, ◌∷◌, ◌||◌, ℕ, Bool, true, not, List, None, is_some, codes}
 use Rattle.hash_rows.specs.Lawful.{IsRegisters}
 use Rattle.hash_rows.specs.OptionTexts.{amount_text, full_text, share_text, sketch_text}
 use Rattle.hash_rows.specs.declared.options.Amount.TheVariants.{Packets}
@@ -10,7 +10,7 @@ use Rattle.hash_rows.specs.declared.options.Share.TheVariants.{Turn}
 use Rattle.hash_rows.specs.declared.options.Sketch.{Sketch}
 use Rattle.hash_rows.specs.declared.options.Sketch.TheVariants.{CountMin, LogLog}
 use Rattle.hash_rows.specs.declared.shape.Shape.{Shape}
-use Rattle.words.specs.Grammar.{IsLine, Part, Text, value_in}
+use Rattle.words.specs.Grammar.{IsLine, Part, Text, is_in, value_in}
 use Rattle.words.specs.Names.{line_names}
 use Rattle.words.specs.Values.{NeedsNumber, ReadsChoice, ReadsInteger, ReadsKeys, ReadsNumber}
 use Rattle.words.specs.declared.command.Command.{Command}
@@ -66,7 +66,7 @@ pub record GivesOptions (parts : List Part) (o : Options) : Type 0 where
   pub room : o.watch.room ≡ 16
   pub heavy : ReadsNumber 1 1024 64 (value_in (codes "heavy") parts) o.heavy
   pub least : ReadsInteger 1 1099511627776 1024 (value_in (codes "least") parts) o.least
-  pub journal : o.journal ≡ false
+  pub journal : o.journal ≡ is_in (codes "journal") parts
 
 -- the words behind `run` give the options
 abbrev pub GivesRun : List Text → Options → Type 0

@@ -107,7 +107,7 @@ pub(crate) fn options_of(matches: &ArgMatches<'_>, watch: Keys) -> Option<Option
         asks: small_or(matches.get_str("asks"), 0, 1024, 0)?,
         heavy: small_or(matches.get_str("heavy"), 1, 1024, 64)?,
         least: least_or(matches.get_str("least"))?,
-        journal: false,
+        journal: matches.get_flag("journal"),
         watch,
     })
 }

@@ -33,7 +33,7 @@ static OPTIONS: [&str; 18] = [
     "full",
 ];
 
-static FLAGS: [&str; 0] = [];
+static FLAGS: [&str; 1] = ["journal"];
 
 // An option with one value.
 fn option<'a>(alloc: Global, name: &'a str) -> Arg<'a>

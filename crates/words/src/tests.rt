@@ -25,7 +25,7 @@ fn run(alloc: Global, words: &[&str]) -> Result<Options, Fail> {
 
 #[test]
 fn refuses_what_the_grammar_lacks(rt: HostRuntime) -> Result<(), Fail> {
-    let refused: [&[&str]; 25] = [
+    let refused: [&[&str]; 27] = [
         &[],
         &["walk"],
         &["run", "--threshold", "0"],
@@ -43,7 +43,9 @@ fn refuses_what_the_grammar_lacks(rt: HostRuntime) -> Result<(), Fail> {
         &["run", "--rows"],
         &["run", "--rows==2"],
         &["run", "--journal="],
-        &["run", "--journal"],
+        &["run", "--journal=x"],
+        &["run", "--journal", "x"],
+        &["run", "--journal", "--journal"],
         &["run", "--mode", "threads"],
         &["run", "--records", "1"],
         &["load", "--records", "1"],
@@ -96,6 +98,21 @@ fn values_stand_behind_a_space_or_a_sign(rt: HostRuntime) -> Result<(), Fail> {
     let joined = run(rt.alloc(), &["run", "--share=key", "--rows=2"])?;
     assert_eq!(rt; (spaced.shape.rows, joined.shape.rows), (2, 2));
     assert_eq!(rt; (spaced.share, joined.share), (Share::Key, Share::Key));
+    Ok(())
+}
+
+#[test]
+fn a_flag_stands_anywhere(rt: HostRuntime) -> Result<(), Fail> {
+    for words in [
+        ["run", "--journal", "--rows", "2"],
+        ["run", "--rows", "2", "--journal"],
+    ] {
+        let options = run(rt.alloc(), &words)?;
+        assert!(rt; options.journal);
+        assert_eq!(rt; options.shape.rows, 2);
+    }
+    let registers = run(rt.alloc(), &["run", "--sketch", "loglog", "--journal"])?;
+    assert!(rt; registers.journal);
     Ok(())
 }
 

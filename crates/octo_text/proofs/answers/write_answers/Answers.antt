@@ -4,7 +4,7 @@ use Rattle.flow_base.specs.Writing.{Writes}
 use Rattle.flow_base.specs.declared.flow.Failed.{Failed}
 use Rattle.flow_base.proofs.WritingLemmas.{writes_none, writes_item, writes_item_stop, writes_items}
 use Rattle.hash_rows.specs.declared.answer.Answer.{Answer}
-use Rattle.octo_text.specs.Content.{parts_of}
+use Rattle.push_history.specs.Answers.{parts_of}
 use Rattle.octo_text.specs.JournalText.{answer_line}
 use Rattle.octo_text.proofs.answers.write_answers.Goals as goal
 

@@ -2,7 +2,7 @@ use Rattle.std.proofs.Common.{◌≤◌, take, Ok}
 use Rattle.std.specs.List.{flat_map}
 use Rattle.flow_base.specs.Writing.{Writes}
 use Rattle.flow_base.specs.declared.flow.Failed.{Failed}
-use Rattle.octo_text.specs.Content.{parts_of}
+use Rattle.push_history.specs.Answers.{parts_of}
 use Rattle.octo_text.specs.JournalText.{answer_line}
 use Rattle.octo_text.proofs.answers.write_answers.Given as goal
 
