@@ -10,14 +10,15 @@ use Rattle.std.proofs.lemmas.List.Elements.{All-take}
 use Rattle.std.proofs.lemmas.List.Sums.{sum_by-cons, sum_by-append, sum_by-take-le}
 use Rattle.hash_rows.specs.declared.shape.Push.{Push}
 use Rattle.hash_rows.specs.declared.shape.Update.{Update}
+use Rattle.hash_rows.specs.Rules.{Rules}
 use Rattle.hash_rows.specs.Sketches.{sum_join}
 use Rattle.count_min.proofs.NeverBelow.{join_amounts}
 use Rattle.hash_rows.specs.Sketches.{sum_gap}
 use Rattle.hash_rows.proofs.SumLaws.{count_min_lawful}
 use Rattle.push_history.specs.Share.{zero_key}
-use Rattle.push_history.specs.Front.{message_at, upto_of}
+use Rattle.push_history.specs.Front.{upto_of}
 use Rattle.push_history.specs.LawfulJournal.{sent_by}
-use Rattle.push_history.specs.Pushes.{ArePushes, is_refused}
+use Rattle.push_history.specs.Pushes.{ArePushes, TellsAll, is_refused}
 use Rattle.push_history.specs.Residue.{residue_size}
 use Rattle.push_history.specs.Shown.{first_messages}
 use Rattle.push_history.specs.Told.{told, messages_before}
@@ -80,23 +81,24 @@ least_more f k x (w ∷ ws) =
     let here : int_min (x +ℤ pos k) (f w +ℤ pos k) ≡ int_min x (f w) +ℤ pos k = omega (arith, ints, clamps) in
     ap (λ (z : ℤ). fold int_min z (map (λ w. f w +ℤ pos k) ws)) here ∙ least_more f k (int_min x (f w)) ws
 
+-- the updates that match a front are among those that were counted
+pub upto_within : (r : Rules) (U : List Update) (S : List Push) → All (TellsAll r U S) S → (j : ℕ) → j ≤ length S → upto_of S j ≤ length U
+unfolding upto_of
+upto_within r U S tell zero le = omega arith
+upto_within r U S tell (suc i) le =
+    let no : (suc i == 0) ≡ false = grind arith in
+    let back : suc i - 1 ≡ i = omega arith in
+    let tells = tell i (record { worker = 0; packet = 0; update = 0; key = zero_key; cell = 0; amount = pos 0 }) (omega (arith, le)) in
+    rw (no, back) (omega (arith, tells.within))
+
 -- what a worker's messages up to a front tell, and what its matching updates make
 module _ (T : ℕ) (U : List Update) (S : List Push) (F : List ℕ) (h : ArePushes count_min T U S F) (values : All (λ u. IsPlain u.value) U) (small : (cell : ℕ) → plain_whole cell U < 2 ^ 63)
     (j : ℕ) (le : j ≤ length S) where
-  upto_within : upto_of S j ≤ length U
-  unfolding upto_of
-  upto_within = by j le
-    where
-      by : (j : ℕ) → j ≤ length S → (if j == 0 then 0 else (message_at S (j - 1)).update + 1) ≤ length U
-      by zero le = omega arith
-      by (suc i) le =
-          let no : (suc i == 0) ≡ false = grind arith in
-          let back : suc i - 1 ≡ i = omega arith in
-          let tells = h.amounts i (record { worker = 0; packet = 0; update = 0; key = zero_key; cell = 0; amount = pos 0 }) (omega (arith, le)) in
-          rw (no, back) (omega (arith, tells.within))
+  matching_within : upto_of S j ≤ length U
+  matching_within = upto_within count_min U S h.amounts j le
 
   told_at_front : IsTold U S (upto_of S j)
-  told_at_front = are_told T U S F h values small (upto_of S j) upto_within
+  told_at_front = are_told T U S F h values small (upto_of S j) matching_within
 
   before_front : messages_before (upto_of S j) S ≡ take j S
   before_front = messages_first S h.rising j le
@@ -128,6 +130,6 @@ module _ (T : ℕ) (U : List Update) (S : List Push) (F : List ℕ) (h : ArePush
       → plain_whole cell (take (upto_of S j) U) ≤ plain_told cell (take j S) + (T - 1)
   front_short some holds cell none = elim (cases_lt (residue_size count_min U S (upto_of S j) cell) T) [
     | inl less ↦ (let is = size_is cell in omega (arith, less, is, some))
-    | inr far ↦ absurd (let last = large_refused count_min count_min_lawful T U S F holds h some (upto_of S j) cell upto_within far in
+    | inr far ↦ absurd (let last = large_refused count_min count_min_lawful T U S F holds h some (upto_of S j) cell matching_within far in
         let no : true ≡ false = sym last.2 ∙ none last.0 last.1 in cc)
   ]

@@ -7,8 +7,8 @@ use Rattle.std.proofs.lemmas.Bool.{cases_lt}
 use Rattle.std.proofs.lemmas.Int.{ints, clamps}
 use Rattle.std.proofs.lemmas.List.{get_or_past, take_all}
 use Rattle.std.proofs.lemmas.List.Elements.{All-nil, All-append}
-use Rattle.std.proofs.lemmas.List.FromFn.{get_or-map-range_with_len, length-map-range_with_len}
-use Rattle.std.proofs.lemmas.List.Sums.{sum_by-cons, sum_by-take-le, sum_by-le-sum_by}
+use Rattle.std.proofs.lemmas.List.FromFn.{get_or-map-range_with_len, get_or-range_with_len, length-map-range_with_len, length-range_with_len}
+use Rattle.std.proofs.lemmas.List.Sums.{sum_by-cons, sum_by-take-le}
 use Rattle.packet_key.specs.declared.key.FlowKey.{FlowKey}
 use Rattle.hash_rows.specs.declared.shape.Push.{Push}
 use Rattle.hash_rows.specs.declared.shape.Shape.{Shape}
@@ -25,7 +25,7 @@ use Rattle.push_history.specs.Shown.{first_messages, shown_of, shown_cells}
 use Rattle.push_history.specs.Told.{told_of}
 use Rattle.push_history.specs.Updates.{HoldValues}
 use Rattle.push_history.proofs.Notes.{map_range_same}
-use Rattle.fold_law.specs.Bracket.{updates_of_worker, matching, matching_whole, true_of, true_cells, NoneRefused}
+use Rattle.fold_law.specs.Bracket.{AreAmounts, amount_in, updates_of_worker, matching, matching_whole, true_of, true_cells, NoneRefused}
 use Rattle.fold_law.proofs.Bracket.{joined_plain, sum_flat, front_messages, firsts_are, least_more, front_below, front_plain, front_short, whole_front}
 use Rattle.fold_law.proofs.Sums.{count_min, IsPlain, plain_told, plain_whole, told_plain}
 use Rattle.fold_law.proofs.Totals.{member_le, sum_range_le, sum_places}
@@ -66,28 +66,37 @@ at_place f size p = elim (cases_lt p size) [
   | inr past ↦ (let no : nat_lt p size ≡ false = grind arith in get_or_past (map (λ cell. pos (f cell)) (range_with_len 0 size)) p (pos 0) (omega (arith, past, length-map-range_with_len (λ cell. pos (f cell)) 0 size)) ∙ rw no refl)
 ]
 
+-- plain updates that make less than 2 ^ 63 of each cell
+pub record ArePlain (updates : List (List Update)) : Type 0 where
+  pub plains : (w : ℕ) → w < length updates → All (λ u. IsPlain u.value) (updates_of_worker updates w)
+  pub total : (cell : ℕ) → sum_by (λ w. plain_whole cell (updates_of_worker updates w)) (range_with_len 0 (length updates)) < 2 ^ 63
+
+pub are_plain : (updates : List (List Update)) → AreAmounts updates → ArePlain updates
+are_plain updates amounts = record {
+  plains = λ w lt k d inside. plain_from _ (amounts.values w lt k d inside);
+  total = λ cell.
+      let all : sum_by (amount_in cell) updates ≡ sum_by (λ w. plain_whole cell (updates_of_worker updates w)) (range_with_len 0 (length updates)) =
+      ap (sum_by (amount_in cell)) (sym (take_all (length updates) updates (omega arith))) ∙ sum_places (amount_in cell) updates [] (length updates) (omega arith) in
+      omega (arith, all, amounts.total cell);
+}
+
 module _ (T : ℕ) (updates : List (List Update)) (messages : List (List Push)) (refused : List (List ℕ)) (front : List ℕ)
     (same : length messages ≡ length updates) (is_front : IsFront messages front)
     (each : (w : ℕ) → w < length updates → ArePushes count_min T (updates_of_worker updates w) (sent_by messages w) (slice_index_or refused w []))
-    (values : (w : ℕ) → w < length updates → All (λ u. pos 0 ≤ℤ u.value) (updates_of_worker updates w))
-    (total : sum_by (λ us. sum_by (λ u. unsigned_abs u.value) us) updates < 2 ^ 63) where
-  one_if_le : (cell : ℕ) (u : Update) → (if u.cell == cell then unsigned_abs u.value else 0) ≤ unsigned_abs u.value
-  one_if_le cell u = elim (u.cell == cell) as (λ b. (if b then unsigned_abs u.value else 0) ≤ unsigned_abs u.value) [ true ↦ omega arith | false ↦ omega arith ]
-
-  whole_most : (cell w : ℕ) → plain_whole cell (updates_of_worker updates w) ≤ sum_by (λ u. unsigned_abs u.value) (updates_of_worker updates w)
-  whole_most cell w = sum_by-le-sum_by (λ u. if u.cell == cell then unsigned_abs u.value else 0) (λ u. unsigned_abs u.value) (updates_of_worker updates w) (one_if_le cell)
-
+    (plain : ArePlain updates) where
   small : (w : ℕ) → w < length updates → (cell : ℕ) → plain_whole cell (updates_of_worker updates w) < 2 ^ 63
-  small w lt cell = (let a = whole_most cell w in let b = member_le (λ us. sum_by (λ u. unsigned_abs u.value) us) updates w [] lt in omega (arith, a, b, total))
-
-  plains : (w : ℕ) → w < length updates → All (λ u. IsPlain u.value) (updates_of_worker updates w)
-  plains w lt = λ k d inside. plain_from _ (values w lt k d inside)
+  small w lt cell =
+      let f : ℕ → ℕ = λ v. plain_whole cell (updates_of_worker updates v) in
+      let at : get_or (range_with_len 0 (length updates)) w 0 ≡ w = get_or-range_with_len 0 (length updates) w 0 lt ∙ omega arith in
+      let most = member_le f (range_with_len 0 (length updates)) w 0 (omega (arith, lt, length-range_with_len 0 (length updates))) in
+      omega (arith, most, ap f at, plain.total cell)
 
   holds : (w : ℕ) → w < length updates → HoldValues count_min (updates_of_worker updates w)
   holds w lt = λ k d inside.
-      let le = member_le (λ u. unsigned_abs u.value) (updates_of_worker updates w) k d inside in
-      let b = member_le (λ us. sum_by (λ u. unsigned_abs u.value) us) updates w [] lt in
-      subst (λ (z : ℤ). is_sum z ≡ true) (plains w lt k d inside) (amount_sum (unsigned_abs (get_or (updates_of_worker updates w) k d).value) (omega (arith, le, b, total)))
+      let u : Update = get_or (updates_of_worker updates w) k d in
+      let own : (if u.cell == u.cell then unsigned_abs u.value else 0) ≡ unsigned_abs u.value = (let yes : (u.cell == u.cell) ≡ true = grind arith in rw yes refl) in
+      let most = member_le (λ v. if v.cell == u.cell then unsigned_abs v.value else 0) (updates_of_worker updates w) k d inside in
+      subst (λ (z : ℤ). is_sum z ≡ true) (plain.plains w lt k d inside) (amount_sum (unsigned_abs u.value) (omega (arith, own, most, small w lt u.cell)))
 
   within : (w : ℕ) → w < length updates → slice_index_or front w 0 ≤ length (sent_by messages w)
   within w lt = is_front.within w (omega (arith, lt, same))
@@ -99,7 +108,7 @@ module _ (T : ℕ) (updates : List (List Update)) (messages : List (List Push)) 
   made_by cell w = plain_whole cell (take (matching messages front w) (updates_of_worker updates w))
 
   below : (cell w : ℕ) → w < length updates → told_by cell w ≤ made_by cell w
-  below cell w lt = front_below T (updates_of_worker updates w) (sent_by messages w) (slice_index_or refused w []) (each w lt) (plains w lt) (small w lt) (slice_index_or front w 0) (within w lt) cell
+  below cell w lt = front_below T (updates_of_worker updates w) (sent_by messages w) (slice_index_or refused w []) (each w lt) (plain.plains w lt) (small w lt) (slice_index_or front w 0) (within w lt) cell
 
   abbrev told_total : ℕ → ℕ
   told_total cell = sum_by (told_by cell) (range_with_len 0 (length updates))
@@ -112,20 +121,16 @@ module _ (T : ℕ) (updates : List (List Update)) (messages : List (List Push)) 
 
   made_small : (cell : ℕ) → made_total cell < 2 ^ 63
   made_small cell =
-      let abs : ℕ → ℕ = λ w. sum_by (λ u. unsigned_abs u.value) (updates_of_worker updates w) in
-      let most = sum_range_le (made_by cell) abs 0 (length updates)
-      (λ w from to. let a = sum_by-take-le (λ u. if u.cell == cell then unsigned_abs u.value else 0) (updates_of_worker updates w) (matching messages front w) in let b = whole_most cell w in omega (arith, a, b)) in
-      let all : sum_by (λ us. sum_by (λ u. unsigned_abs u.value) us) updates ≡ sum_by abs (range_with_len 0 (length updates)) =
-      ap (sum_by (λ us. sum_by (λ u. unsigned_abs u.value) us)) (sym (take_all (length updates) updates (omega arith)))
-      ∙ sum_places (λ us. sum_by (λ u. unsigned_abs u.value) us) updates [] (length updates) (omega arith) in
-      omega (arith, most, all, total)
+      let most = sum_range_le (made_by cell) (λ w. plain_whole cell (updates_of_worker updates w)) 0 (length updates)
+      (λ w from to. sum_by-take-le (λ u. if u.cell == cell then unsigned_abs u.value else 0) (updates_of_worker updates w) (matching messages front w)) in
+      omega (arith, most, plain.total cell)
 
   true_is : (cell : ℕ) → true_of count_min updates messages front cell ≡ pos (made_total cell)
   unfolding true_of matching_whole
   true_is cell =
       ap (joined_of count_min) (map_range_same (matching_whole count_min updates messages front cell) (λ w. pos (made_by cell w)) 0 (length updates)
       (λ w from to. let lt : w < length updates = omega (arith, to) in
-      whole_front T (updates_of_worker updates w) (sent_by messages w) (slice_index_or refused w []) (each w lt) (plains w lt) (small w lt) (slice_index_or front w 0) (within w lt) cell))
+      whole_front T (updates_of_worker updates w) (sent_by messages w) (slice_index_or refused w []) (each w lt) (plain.plains w lt) (small w lt) (slice_index_or front w 0) (within w lt) cell))
       ∙ joined_plain (made_by cell) (range_with_len 0 (length updates)) 0 (let s = made_small cell in omega (arith, s)) ∙ ap pos (omega arith)
 
   firsts_plain : (first n : ℕ) → first + n ≤ length updates → All (λ m. IsPlain m.amount) (flat_map (front_messages messages front) (range_with_len first n))
@@ -133,7 +138,7 @@ module _ (T : ℕ) (updates : List (List Update)) (messages : List (List Push)) 
   firsts_plain first (suc n) le =
       let lt : first < length updates = omega (arith, le) in
       All-append (λ m. IsPlain m.amount) (front_messages messages front first) (flat_map (front_messages messages front) (range_with_len (first + 1) n))
-      (front_plain T (updates_of_worker updates first) (sent_by messages first) (slice_index_or refused first []) (each first lt) (plains first lt) (small first lt) (slice_index_or front first 0) (within first lt))
+      (front_plain T (updates_of_worker updates first) (sent_by messages first) (slice_index_or refused first []) (each first lt) (plain.plains first lt) (small first lt) (slice_index_or front first 0) (within first lt))
       (firsts_plain (first + 1) n (omega (arith, le)))
 
   shown_is : (cell : ℕ) → shown_of count_min messages front cell ≡ pos (told_total cell)
@@ -172,7 +177,7 @@ module _ (T : ℕ) (updates : List (List Update)) (messages : List (List Push)) 
   made_short some cell none =
       let each_short = sum_range_le (made_by cell) (λ w. told_by cell w + (T - 1)) 0 (length updates)
       (λ w from to. let lt : w < length updates = omega (arith, to) in
-      front_short T (updates_of_worker updates w) (sent_by messages w) (slice_index_or refused w []) (each w lt) (plains w lt) (small w lt) (slice_index_or front w 0) (within w lt) some (holds w lt) cell (none w)) in
+      front_short T (updates_of_worker updates w) (sent_by messages w) (slice_index_or refused w []) (each w lt) (plain.plains w lt) (small w lt) (slice_index_or front w 0) (within w lt) some (holds w lt) cell (none w)) in
       let sums = sum_more (told_by cell) (T - 1) 0 (length updates) in
       omega (arith, each_short, sums)
 

@@ -132,7 +132,7 @@ packet_most shape lawful packets cell i =
     let most = added_most shape lawful cell (packet_at packets i) in
     omega (arith, rows, most)
 
-share_most : (shape : Shape) → IsShape shape → (packets : List Packet) (cell : ℕ) (share : List ℕ) → plain_whole cell (updates_of count_min shape packets share) ≤ sum_by (λ i. (packet_at packets i).amount) share
+pub share_most : (shape : Shape) → IsShape shape → (packets : List Packet) (cell : ℕ) (share : List ℕ) → plain_whole cell (updates_of count_min shape packets share) ≤ sum_by (λ i. (packet_at packets i).amount) share
 unfolding updates_of
 share_most shape lawful packets cell [] = omega arith
 share_most shape lawful packets cell (i ∷ is) =
@@ -156,7 +156,7 @@ updates_plain shape packets (i ∷ is) =
     (rows_plain shape i (packet_at packets i) (rows_of shape)) (updates_plain shape packets is)
 
 -- the shares of all workers amount to the packets
-shares_total : (sharing : Share) (workers : ℕ) (packets : List Packet) → 0 < workers
+pub shares_total : (sharing : Share) (workers : ℕ) (packets : List Packet) → 0 < workers
     → sum_by (λ w. sum_by (λ i. (packet_at packets i).amount) (share_of_worker sharing workers packets w)) (range_with_len 0 workers) ≡ total_amount packets
 unfolding share_of_worker total_amount
 shares_total sharing workers packets some =

@@ -1,7 +1,7 @@
 -- The laws that hold in each state of a core.
 use Rattle.std.proofs.Common.{◌≡◌, ◌<◌, ◌==◌, ℕ, ℤ, true, List, ◌++◌, take, drop, map, filter, get_or, slice_get, Some, sym, ◌∙◌, ap, ap₂, subst, arith}
 use Rattle.std.specs.Prelude.{All}
-use Rattle.std.proofs.lemmas.List.{map-append, take-append-drop, get_or-take}
+use Rattle.std.proofs.lemmas.List.{map-append, take-append-drop, take-take, get_or-take}
 use Rattle.std.proofs.lemmas.List.Elements.{All-take, All-drop, All-filter, All-map, filter-append}
 use Rattle.std.proofs.lemmas.Option.{MatchOption-at_none}
 use Rattle.hash_rows.specs.declared.shape.Push.{Push}
@@ -23,7 +23,6 @@ use Rattle.lag_core.specs.Lanes.{Queue}
 use Rattle.lag_core.specs.Workers.{IsWorkerAt, terms_of}
 use Rattle.lag_core.specs.Lags.{Core, IsCoreAt, workers_of}
 use Rattle.lag_core.specs.Laws.{IsLawful, Conserves}
-use Rattle.lag_core.proofs.Reading.{take_take}
 use Rattle.lag_core.proofs.Sizes.{some_at}
 
 amounts_values : (r : Rules) (cell : ℕ) (xs : List Push) → All (λ m. r.is_value m.amount ≡ true) xs → AreValues r (amounts_for cell xs)
@@ -41,7 +40,7 @@ told_append r laws cell xs ys all_xs all_ys =
 -- the first updates are the first of the first
 whole_first : (r : Rules) (U : List Entry) (n cell : ℕ) → whole r (take n U) n cell ≡ whole r U n cell
 unfolding whole
-whole_first r U n cell = ap (whole_of r cell) (take_take n n U (omega arith))
+whole_first r U n cell = ap (whole_of r cell) (take-take n n U (omega arith))
 
 left_first : (r : Rules) (U : List Entry) (S : List Push) (n cell : ℕ) → residue r (take n U) S n cell ≡ residue r U S n cell
 unfolding residue

@@ -25,7 +25,8 @@ use Rattle.lag_core.specs.Workers.{terms_of, IsWorkerAt}
 use Rattle.lag_core.specs.Lags.{Core, IsCoreAt, Steps, with_note, workers_of}
 use Rattle.lag_core.proofs.Folding.{cells_more, front_more, upto_more}
 use Rattle.lag_core.proofs.Heavies.{heavy_more, note_leaves, Leaves}
-use Rattle.lag_core.proofs.Lists.{slot_set, filter_push}
+use Rattle.push_history.proofs.Lists.{filter_push_no, filter_push_yes}
+use Rattle.lag_core.proofs.Lists.{slot_set}
 
 -- an update leaves what was taken
 count_keeps : (t : Terms) (w : ℕ) (s : Worker) → s.taken ≤ length s.sent → ((count_step t w s).0.taken ≡ s.taken) × (take s.taken (count_step t w s).0.sent ≡ take s.taken s.sent)
@@ -230,12 +231,12 @@ module _ {H : Type 0} (stands : H → ℤ → ℤ → Type 0) (r : Rules) (v : C
           ap (λ (ms : List Push). ms ++ m ∷ []) (subst (λ (j : ℕ). messages_of j s.folded ≡ take (worker_in s w).taken (worker_in s w).sent) same (h.own w within))
           ∙ ap (λ (x : Push). take (worker_in s w).taken (worker_in s w).sent ++ x ∷ []) (sym is_oldest)
           ∙ sym (take_more (worker_in s w).sent (worker_in s w).taken _ left) in
-          filter_push (λ (x : Push). x.worker == k) s.folded m true is ∙ grown
+          filter_push_yes (λ (x : Push). x.worker == k) s.folded m is ∙ grown
           ∙ ap (λ (z : Worker). take z.taken z.sent) (sym (itself s y h.workers) ∙ ap (λ (j : ℕ). get_or (set s.workers w y) j fresh_worker) same)
       own_more k below false is =
           let apart : w ≢ k = λ e. let g : m.worker ≡ k = names_worker ∙ e in absurd (grind (arith, nat_tests)) in
           let y : Worker = record { counted = (worker_in s w).counted; sent = (worker_in s w).sent; refused = (worker_in s w).refused; taken = (worker_in s w).taken + 1 } in
-          filter_push (λ (x : Push). x.worker == k) s.folded m false is ∙ h.own k below ∙ ap (λ (z : Worker). take z.taken z.sent) (sym (other s y k apart))
+          filter_push_no (λ (x : Push). x.worker == k) s.folded m is ∙ h.own k below ∙ ap (λ (z : Worker). take z.taken z.sent) (sym (other s y k apart))
 
       each_after : (k : ℕ) (a : Sketch H) (b : Queue) → slice_get v.sketches k ≡ Some a → ((w ≡ k) × (lane' ≡ b)) ⊎ ((w ≢ k) × (slice_get v.lanes k ≡ Some b))
           → IsWorkerAt stands (terms_of r v.limits) k a b (get_or (after_take s).workers k fresh_worker)

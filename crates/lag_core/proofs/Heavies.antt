@@ -11,7 +11,7 @@ use Rattle.heavy_keys.proofs.LiveLemmas.{holds_noted}
 use Rattle.push_history.specs.LiveHeavy.{live_keys, missed_keys, notes_of, live_of, missed_of}
 use Rattle.push_history.specs.Shown.{told_cells}
 use Rattle.lag_core.specs.Lags.{HoldsHeavy, with_note}
-use Rattle.lag_core.proofs.Folding.{notes_more}
+use Rattle.push_history.proofs.Notes.{notes_push}
 
 keyed_holds : (r : Rules) (shape : Shape) (t : HeavyTable) (messages : List Push) → r.keyed ≡ true → HoldsHeavy r shape t messages → HoldsLive t (notes_of r shape messages)
 unfolding live_keys missed_keys
@@ -44,7 +44,7 @@ heavy_more r shape cells t messages m told h = by r.keyed refl
     by : (b : Bool) → r.keyed ≡ b → HoldsHeavy r shape (if r.keyed then noted t m.key (r.estimate shape cells m.key) else t) (messages ++ m ∷ [])
     by true keyed =
         let after = holds_noted t (notes_of r shape messages) m.key (r.estimate shape cells m.key) (keyed_holds r shape t messages keyed h) in
-        let notes = ap (λ (c : List ℤ). notes_of r shape messages ++ record { key = m.key; estimate = r.estimate shape c m.key } ∷ []) told ∙ sym (notes_more r shape messages m) in
+        let notes = ap (λ (c : List ℤ). notes_of r shape messages ++ record { key = m.key; estimate = r.estimate shape c m.key } ∷ []) told ∙ sym (notes_push r shape messages m) in
         subst (λ (b : Bool). HoldsHeavy r shape (if b then noted t m.key (r.estimate shape cells m.key) else t) (messages ++ m ∷ [])) (sym keyed)
         (holds_keyed r shape (noted t m.key (r.estimate shape cells m.key)) (messages ++ m ∷ []) keyed
         (subst (HoldsLive (noted t m.key (r.estimate shape cells m.key))) notes after))

@@ -1,10 +1,10 @@
 -- What is read of a core, and what it means.
-use Rattle.std.proofs.Common.{◌≡◌, ◌<◌, ◌≤◌, ◌-◌, ◌==◌, ℕ, ℤ, Bool, pos, true, List, [], length, take, drop, filter, get_or, slice_get, Some, refl, sym, ◌∙◌, ap, arith, zero, suc, ◌∷◌}
+use Rattle.std.proofs.Common.{◌≡◌, ◌<◌, ◌≤◌, ◌-◌, ◌==◌, ℕ, ℤ, Bool, pos, true, List, [], length, take, drop, filter, get_or, slice_get, Some, sym, ◌∙◌, ap, arith}
 use Rattle.std.proofs.Math.ListN.{get_or-map}
 use Rattle.std.proofs.lemmas.List.{length-take, length-drop, take_all, length-take-le}
 use Rattle.std.proofs.lemmas.List.Elements.{All-take}
 use Rattle.std.proofs.lemmas.List.FromFn.{get_or-map-range_with_len}
-use Rattle.std.proofs.lemmas.Option.{get_or_from_slice_get}
+use Rattle.std.proofs.lemmas.Option.{get_or_from_slice_get, slice_get_within}
 use Rattle.hash_rows.specs.declared.shape.Push.{Push}
 use Rattle.hash_rows.specs.declared.shape.Update.{Update as Entry}
 use Rattle.hash_rows.specs.Rules.{Rules, AreLaws}
@@ -17,20 +17,13 @@ use Rattle.push_history.specs.Told.{told, told_of}
 use Rattle.push_history.specs.Whole.{whole, whole_of}
 use Rattle.push_history.proofs.Folded.{fold_shown}
 use Rattle.std.proofs.Math.Seq.{take-append_seam}
-use Rattle.std.proofs.lemmas.List.{take-append-drop}
+use Rattle.std.proofs.lemmas.List.{take-append-drop, take-take}
 use Rattle.std.proofs.lemmas.List.Elements.{filter-append}
 use Rattle.push_rule.specs.Stands.{Sketch}
 use Rattle.lag_core.specs.Lanes.{Queue}
 use Rattle.lag_core.specs.Lags.{Core, IsCoreAt, workers_of, sent_by_each, shown_messages}
-use Rattle.lag_core.proofs.Lists.{slot_below, made_same}
+use Rattle.push_history.proofs.Notes.{map_range_same}
 use Rattle.lag_core.proofs.Sizes.{map_length}
-
--- a front of a front
-pub take_take : {X : Type 0} (n m : ℕ) (xs : List X) → n ≤ m → take n (take m xs) ≡ take n xs
-take_take zero m xs le = refl
-take_take (suc n) zero xs le = absurd (omega arith)
-take_take (suc n) (suc m) [] le = refl
-take_take (suc n) (suc m) (x ∷ xs) le = ap (λ l. x ∷ l) (take_take n m xs (omega arith))
 
 -- what passes of a front is a front of what passes
 filtered_front : {X : Type 0} (p : X → Bool) (xs : List X) (j : ℕ) → filter p (take j xs) ≡ take (length (filter p (take j xs))) (filter p xs)
@@ -50,12 +43,12 @@ module _ {H : Type 0} (stands : H → ℤ → ℤ → Type 0) (r : Rules) (laws 
   firsts : (w : ℕ) (sent : List Push) → slice_get (sent_by_each s) w ≡ Some sent
       → messages_of w (shown_messages s) ≡ take (length (messages_of w (shown_messages s))) sent
   firsts w sent at =
-      let below : w < workers_of v = omega (arith, slot_below (sent_by_each s) w sent at, map_length (λ (x : Worker). x.sent) s.workers, h.workers) in
+      let below : w < workers_of v = omega (arith, slice_get_within (sent_by_each s) w sent at, map_length (λ (x : Worker). x.sent) s.workers, h.workers) in
       let its : (worker_in s w).sent ≡ sent = sym (get_or-map (λ (x : Worker). x.sent) s.workers w fresh_worker) ∙ get_or_from_slice_get (sent_by_each s) w sent [] at in
       let front = filtered_front (λ (m : Push). m.worker == w) s.folded s.shown in
       let n = length (messages_of w (shown_messages s)) in
       let few : n ≤ (worker_in s w).taken = omega (arith, ap (λ (l : List Push). length l) front, length-take n (messages_of w s.folded), ap (λ (l : List Push). length l) (h.own w below), length-take (worker_in s w).taken (worker_in s w).sent) in
-      front ∙ ap (take n) (h.own w below) ∙ take_take n (worker_in s w).taken (worker_in s w).sent few ∙ ap (take n) its
+      front ∙ ap (take n) (h.own w below) ∙ take-take n (worker_in s w).taken (worker_in s w).sent few ∙ ap (take n) its
 
   pub shown_is : (cell : ℕ) → told_of r cell (shown_messages s) ≡ shown_of r (sent_by_each s) (front_of (workers_of v) (shown_messages s)) cell
   shown_is cell = sym (fold_shown r laws (workers_of v) (sent_by_each s) (shown_messages s)
@@ -65,7 +58,7 @@ module _ {H : Type 0} (stands : H → ℤ → ℤ → Type 0) (r : Rules) (laws 
 
   pub cells_are : v.shown.cells ≡ shown_cells r v.shape (sent_by_each s) (front_of (workers_of v) (shown_messages s))
   unfolding told_cells shown_cells
-  cells_are = h.shown.cells ∙ made_same (λ cell. told_of r cell (shown_messages s)) (shown_of r (sent_by_each s) (front_of (workers_of v) (shown_messages s))) (size_of v.shape) (pos 0) (λ k lt. shown_is k)
+  cells_are = h.shown.cells ∙ map_range_same (λ cell. told_of r cell (shown_messages s)) (shown_of r (sent_by_each s) (front_of (workers_of v) (shown_messages s))) 0 (size_of v.shape) (λ k from to. shown_is k)
 
   pub cell_is : (cell : ℕ) → cell < size_of v.shape → get_or v.shown.cells cell (pos 0) ≡ shown_of r (sent_by_each s) (front_of (workers_of v) (shown_messages s)) cell
   unfolding shown_cells

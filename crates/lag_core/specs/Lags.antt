@@ -98,3 +98,7 @@ shown_messages s = take s.shown s.folded
 -- the messages of each worker
 abbrev pub sent_by_each : State → List (List Push)
 sent_by_each s = map (λ x. x.sent) s.workers
+
+-- the refused updates of each worker
+abbrev pub refused_by_each : State → List (List ℕ)
+refused_by_each s = map (λ x. x.refused) s.workers

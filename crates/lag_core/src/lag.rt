@@ -94,6 +94,10 @@ impl<K: Kind> Lag<K> {
         ensures limits { IfOk result (λ lag. lag.limits ≡ record { threshold = threshold; capacity = capacity; full = full; updates = map (λ row. row.items) updates.items }) }
         ensures readers { IfOk result (λ lag. length lag.seen ≡ readers) }
         ensures heavy { IfOk result (λ lag. (lag.heavy.limit ≡ heavy) × (lag.heavy.least ≡ least)) }
+        ensures lawful { IfOk result (λ lag. (events : List Event) → StandsFor K.stands K.rules lag events →
+            IsLawful (terms_of K.rules lag.limits) (state_after K.rules lag events)) }
+        ensures conserves { IfOk result (λ lag. (events : List Event) → StandsFor K.stands K.rules lag events →
+            Conserves (terms_of K.rules lag.limits) (state_after K.rules lag events)) }
     {
         let workers = updates.len();
         let (sketches, lanes) = new_workers::<K>(alloc, &shape, threshold, capacity, &updates)?;

@@ -1,6 +1,8 @@
 ghost use Rattle.std.specs.Prelude.{◌≡◌, ◌<◌, ◌≤◌, ◌-◌, List, length, min, take, slice_get, slice_index_or, Some};
 ghost use Rattle.hash_rows.specs.Shapes.{size_of};
 ghost use Rattle.push_history.specs.declared.event.Event.{Event};
+ghost use Rattle.fold_law.specs.Bracket.{AreAmounts, IsNear};
+ghost use Rattle.hash_rows.specs.declared.options.Sketch.TheVariants.{CountMin};
 ghost use Rattle.push_history.specs.Front.{front_of, uptos_of};
 ghost use Rattle.push_history.specs.LagRun.{updates_by, worker_in};
 ghost use Rattle.push_history.specs.LiveHeavy.{live_keys, missed_keys};
@@ -8,7 +10,7 @@ ghost use Rattle.push_history.specs.Pushes.{is_refused};
 ghost use Rattle.push_history.specs.Residue.{residue};
 ghost use Rattle.push_history.specs.Shown.{shown_of, shown_cells};
 ghost use Rattle.lag_core.specs.Workers.{terms_of};
-ghost use Rattle.lag_core.specs.Lags.{StandsFor, sent_by_each, shown_messages, state_after, workers_of};
+ghost use Rattle.lag_core.specs.Lags.{StandsFor, refused_by_each, sent_by_each, shown_messages, state_after, workers_of};
 
 use crate::lag::Lag;
 use hash_rows::Kind;
@@ -24,9 +26,12 @@ impl<K: Kind> Lag<K> {
         self.shown.cell(cell)
     }
 
-    /// What is shown of a key.
+    /// What is shown of a key. For Count-Min it is near what would be, had all matching updates been told.
     pub fn estimate(&self, key: &FlowKey) -> i64
-        ensures { (events : List Event) → StandsFor K.stands K.rules self.now events → let s = state_after K.rules self.now events in
+        ensures near { K.sketch ≡ CountMin → AreAmounts self.now.limits.updates →
+            (events : List Event) → StandsFor K.stands K.rules self.now events → let s = state_after K.rules self.now events in
+            IsNear self.now.limits.threshold self.now.limits.updates (sent_by_each s) (refused_by_each s) (front_of (workers_of self.now) (shown_messages s)) self.now.shape key.now result }
+        ensures shown { (events : List Event) → StandsFor K.stands K.rules self.now events → let s = state_after K.rules self.now events in
             result ≡ K.rules.estimate self.now.shape (shown_cells K.rules self.now.shape (sent_by_each s) (front_of (workers_of self.now) (shown_messages s))) key.now }
     {
         K::estimate(&self.shape, self.shown.cells(), key)
