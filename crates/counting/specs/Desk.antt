@@ -1,6 +1,5 @@
 -- What contracts see of a worker.
-use Rattle.std.specs.Prelude.{◌≡◌, ℕ, List, ◌-◌, length, Bool, true, false, refl}
-use Rattle.std.specs.Coded.{Coded, code_by, coded×, coded_ℕ, coded_list}
+use Rattle.std.specs.Prelude.{◌≡◌, ℕ, List, ◌-◌, ◌++◌, length, Bool, true, false}
 use Rattle.hash_rows.specs.declared.options.Full.{Full}
 use Rattle.hash_rows.specs.declared.options.Full.TheVariants.{Leave, Wait}
 use Rattle.hash_rows.specs.declared.shape.Push.{Push}
@@ -35,3 +34,8 @@ pub record SameDesk {Held : Type 0} (old new : Desk Held) : Type 0 where
 abbrev pub is_wait : Full → Bool
 is_wait Leave = false
 is_wait Wait = true
+
+-- the list has grown at its end
+pub record Extends {A : Type 0} (old new : List A) : Type 0 where
+  pub more : List A
+  pub parts : new ≡ old ++ more

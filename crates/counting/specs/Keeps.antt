@@ -1,5 +1,5 @@
 -- What a worker stands for.
-use Rattle.std.specs.Prelude.{◌≡◌, ◌≤◌, ℕ, ℤ, ◌+◌, ◌++◌, List, length, take, Option, None}
+use Rattle.std.specs.Prelude.{◌≡◌, ◌≤◌, ℕ, ℤ, ◌+◌, ◌++◌, List, length, take, None}
 use Rattle.hash_rows.specs.declared.shape.Push.{Push}
 use Rattle.push_history.specs.LagRun.{Terms, Worker, updates_by}
 use Rattle.push_rule.specs.Stands.{StandsFor}

@@ -36,9 +36,10 @@ impl<K: Kind> Model for Counter<K> {
 }
 
 impl<K: Kind> Counter<K> {
-    ghost use Rattle.std.specs.Prelude.{None, ◌&&◌, nat_le, false, slice_index_or};
+    ghost use Rattle.std.specs.Prelude.{None, ◌&&◌, ◌||◌, nat_le, nat_lt, false, if◌then◌else◌, max, slice_index_or};
     ghost use Rattle.push_history.specs.Pushes.{distance_at, is_refused};
-    ghost use Rattle.counting.specs.Desk.{SameDesk, in_lane, is_wait};
+    ghost use Rattle.counting.specs.Desk.{SameDesk, Extends, in_lane, is_wait};
+    ghost use Rattle.push_history.specs.Rounds.{is_waits};
     ghost use Rattle.counting.specs.Keeps.{Keeps};
 
     /// A worker that has counted nothing, with a sketch of so many cells, for so many updates, and
@@ -89,6 +90,13 @@ impl<K: Kind> Counter<K> {
         self.sketch.counted()
     }
 
+    /// Whether there are updates left to count, or messages in the lane.
+    pub fn is_busy(&self) -> bool
+        ensures { result ≡ (nat_lt self.now.sketch.counted self.now.sketch.room || nat_lt 0 (in_lane self.now)) }
+    {
+        self.sketch.has_left() || self.held() > 0
+    }
+
     /// The messages since the queue was cleared, those that were folded in front.
     pub fn messages(&self) -> &[Push]
         ensures { result.now ≡ self.now.queue }
@@ -127,7 +135,9 @@ impl<K: Kind> Counter<K> {
     /// What was counted of the cell and not told.
     pub fn residue(&self, cell: u32) -> i64
         requires { cell < length self.now.sketch.held }
-        ensures { (t : Terms) (w : ℕ) (x : Worker) → t.rules ≡ K.rules → Keeps K.stands t w self.now x
+        ensures value { (t : Terms) (w : ℕ) (x : Worker) → t.rules ≡ K.rules → Keeps K.stands t w self.now x
+            → K.rules.is_value result ≡ true }
+        ensures residue { (t : Terms) (w : ℕ) (x : Worker) → t.rules ≡ K.rules → Keeps K.stands t w self.now x
             → result ≡ residue t.rules (updates_by t w) x.sent x.counted cell }
     {
         self.sketch.residue(cell)
@@ -154,6 +164,9 @@ impl<K: Kind> Counter<K> {
             → Keeps K.stands t w self.new (count_step t w x).0 × (result ≡ (count_step t w x).1) }
         ensures same { SameDesk self.old self.new }
         ensures queue { length self.new.queue ≤ length self.old.queue + 1 }
+        ensures lane { length self.new.queue ≤ max (length self.old.queue) (self.old.taken + self.old.lane) }
+        ensures grows { Extends self.old.queue self.new.queue }
+        ensures counted { self.new.sketch.counted ≡ (if is_waits result then self.old.sketch.counted else self.old.sketch.counted + 1) }
     {
         if self.held() < self.lane {
             return self.count_with_room(update);
@@ -173,6 +186,9 @@ impl<K: Kind> Counter<K> {
             → Keeps K.stands t w self.new (count_step t w x).0 × (result ≡ (count_step t w x).1) }
         ensures same { SameDesk self.old self.new }
         ensures queue { length self.new.queue ≤ length self.old.queue + 1 }
+        ensures lane { length self.new.queue ≤ max (length self.old.queue) (self.old.taken + self.old.lane) }
+        ensures grows { Extends self.old.queue self.new.queue }
+        ensures counted { self.new.sketch.counted ≡ (if is_waits result then self.old.sketch.counted else self.old.sketch.counted + 1) }
     {
         let number = self.sketch.counted();
         match self.sketch.count(update.cell, update.value) {
@@ -203,6 +219,9 @@ impl<K: Kind> Counter<K> {
             → Keeps K.stands t w self.new (count_step t w x).0 × (result ≡ (count_step t w x).1) }
         ensures same { SameDesk self.old self.new }
         ensures queue { length self.new.queue ≤ length self.old.queue + 1 }
+        ensures lane { length self.new.queue ≤ max (length self.old.queue) (self.old.taken + self.old.lane) }
+        ensures grows { Extends self.old.queue self.new.queue }
+        ensures counted { self.new.sketch.counted ≡ (if is_waits result then self.old.sketch.counted else self.old.sketch.counted + 1) }
     {
         if self.waits_with(update) {
             return Reply::Waits;
@@ -237,6 +256,7 @@ impl<K: Kind> Counter<K> {
             → Keeps K.stands t w self.new (count_step t w x).0 × (result ≡ (count_step t w x).1) }
         ensures same { SameDesk self.old self.new }
         ensures queue { self.new.queue ≡ self.old.queue }
+        ensures counted { self.new.sketch.counted ≡ (if is_waits result then self.old.sketch.counted else self.old.sketch.counted + 1) }
     {
         match self.sketch.count(update.cell, update.value) {
             None => Reply::Counted,

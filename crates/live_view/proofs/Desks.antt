@@ -1,5 +1,5 @@
 -- What the writer keeps, after each of its steps.
-use Rattle.std.proofs.Common.{◌≡◌, ◌⊎◌, ℤ, true, ◌<◌, ◌≤◌, List, [], ◌∷◌, ◌++◌, length, fold, refl, sym, subst, ap, ◌∙◌, ⊎_elim, arith, length-append, append_assoc, Option, Some, None}
+use Rattle.std.proofs.Common.{◌≡◌, ◌⊎◌, true, ◌<◌, ◌≤◌, List, [], ◌∷◌, ◌++◌, length, fold, refl, sym, subst, ap, ◌∙◌, ⊎_elim, arith, length-append, append_assoc, Option, Some, None}
 use Rattle.std.proofs.lemmas.List.{append-nil, map-append}
 use Rattle.std.proofs.lemmas.List.Elements.{All-nil, All-cons, All-append}
 use Rattle.hash_rows.specs.Rules.{Rules}

@@ -1,26 +1,25 @@
 -- The state after some messages, one message more at a time.
-use Rattle.std.proofs.Common.{◌≡◌, ℕ, ℤ, pos, ◌+◌, ◌<◌, ◌≤◌, ◌&&◌, not, min, Bool, true, false, cond, List, [], ◌∷◌, ◌++◌, length, set, get_or, replicate, fold, refl, sym, ap, ◌∙◌, arith, subst, append_assoc, length-append}
+use Rattle.std.proofs.Common.{◌≡◌, ℕ, ◌+◌, ◌<◌, ◌≤◌, ◌&&◌, Bool, true, false, cond, List, [], ◌∷◌, ◌++◌, length, fold, refl, sym, ap, ◌∙◌, arith, subst, append_assoc, length-append}
 use Rattle.std.specs.Prelude.{nat_lt}
-use Rattle.std.proofs.lemmas.List.{append-nil, length-set, length-replicate}
+use Rattle.std.proofs.lemmas.List.{append-nil}
 use Rattle.std.proofs.lemmas.List.Elements.{All-head, All-tail}
 use Rattle.std.proofs.lemmas.List.Sums.{fold-append}
 use Rattle.std.proofs.lemmas.Bool.Decides.{nat_tests}
-use Rattle.packet_key.specs.declared.key.FlowKey.{FlowKey}
 use Rattle.hash_rows.specs.declared.shape.Flow.{Flow}
 use Rattle.hash_rows.specs.declared.shape.Push.{Push}
-use Rattle.hash_rows.specs.declared.shape.Shape.{Shape}
 use Rattle.hash_rows.specs.Rules.{Rules}
 use Rattle.hash_rows.specs.Shapes.{size_of}
 use Rattle.hash_rows.specs.Tables.{Figures, put_in}
-use Rattle.heavy_keys.specs.Noted.{HeavyTable, is_due, noted, fresh_table}
+use Rattle.heavy_keys.specs.Noted.{HeavyTable, noted, fresh_table}
 use Rattle.push_history.specs.Front.{front_of, uptos_of}
 use Rattle.push_history.specs.LiveHeavy.{notes_of}
 use Rattle.push_history.specs.Shown.{told_cells}
 use Rattle.live_view.specs.declared.layout.Layout.{Layout}
-use Rattle.live_view.specs.Fold.{Fold, most, fits, added, absorbed, fresh_state, state_after, Fit, layout_of, key_noted, one_more, front_raised}
+use Rattle.live_view.specs.Fold.{Fold, most, fits, added, absorbed, fresh_state, Fit, layout_of, key_noted}
 use Rattle.live_view.specs.Shows.{heavy_after, all_noted}
 use Rattle.live_view.proofs.Layouts.{added_layout, fresh_layout}
-use Rattle.live_view.proofs.Shown.{cells_none, cells_more, front_none, front_more, upto_none, upto_more, notes_more}
+use Rattle.live_view.proofs.Shown.{cells_none, cells_more, front_none, front_more, upto_none, upto_more}
+use Rattle.push_history.proofs.Notes.{notes_push}
 
 -- what is kept of some messages
 pub record Kept (r : Rules) (l : Layout) (messages : List Push) (s : Fold) : Type 0 where
@@ -59,7 +58,7 @@ heavy_more r l messages m heavy table is shape cells true keyed =
     let one : key_noted r table heavy m.key ≡ noted heavy m.key (r.estimate table.shape table.cells m.key) = ap (λ b. cond b (noted heavy m.key (r.estimate table.shape table.cells m.key)) heavy) keyed in
     let all : heavy_after r l (messages ++ m ∷ []) ≡ noted (all_noted fresh (notes_of r l.shape messages)) note.key note.estimate =
     ap (λ b. all_noted fresh (cond b (notes_of r l.shape (messages ++ m ∷ [])) [])) keyed
-    ∙ (ap (all_noted fresh) (notes_more r l.shape messages m) ∙ fold-append (λ (h : HeavyTable) (n : Flow). noted h n.key n.estimate) fresh (notes_of r l.shape messages) (note ∷ [])) in
+    ∙ (ap (all_noted fresh) (notes_push r l.shape messages m) ∙ fold-append (λ (h : HeavyTable) (n : Flow). noted h n.key n.estimate) fresh (notes_of r l.shape messages) (note ∷ [])) in
     one ∙ ((λ i. noted (before i) m.key (estimate i)) ∙ sym all)
 heavy_more r l messages m heavy table is shape cells false keyed =
     let fresh = fresh_table l.heavy l.least in

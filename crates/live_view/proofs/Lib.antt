@@ -2,7 +2,7 @@ mod Lists
 mod Layouts
 mod Shown
 mod Kept
-mod Live
+pub mod Live
 mod Copied
 mod Prefixes
 mod Folds

@@ -1,9 +1,8 @@
 -- What the state after some messages says of them.
-use Rattle.std.proofs.Common.{◌≡◌, ℕ, ℤ, ◌<◌, ◌≤◌, min, not, filter, Bool, true, false, cond, List, [], ◌∷◌, ◌++◌, length, fold, refl, sym, ap, ◌∙◌, arith, subst, append_assoc}
+use Rattle.std.proofs.Common.{◌≡◌, ℕ, ℤ, ◌≤◌, not, filter, Bool, true, false, cond, List, [], ◌∷◌, ◌++◌, length, refl, sym, ap, ◌∙◌, arith, subst, append_assoc}
 use Rattle.std.specs.Prelude.{int_le}
 use Rattle.std.proofs.lemmas.List.{append-nil, take_all, length-map}
 use Rattle.std.proofs.lemmas.List.FromFn.{length-map-range_with_len}
-use Rattle.packet_key.specs.declared.key.FlowKey.{FlowKey}
 use Rattle.hash_rows.specs.declared.shape.Flow.{Flow}
 use Rattle.hash_rows.specs.declared.shape.Push.{Push}
 use Rattle.hash_rows.specs.declared.shape.Shape.{Shape}
@@ -14,7 +13,7 @@ use Rattle.heavy_keys.proofs.LiveLemmas.{holds_none, holds_noted}
 use Rattle.push_history.specs.LiveHeavy.{notes_of, note_at, live_of, missed_of, live_keys, missed_keys, qualifying, is_among}
 use Rattle.live_view.specs.declared.layout.Layout.{Layout}
 use Rattle.live_view.specs.Fold.{Fold, most, state_after, Fit}
-use Rattle.live_view.specs.Shows.{Shows, heavy_after, all_noted}
+use Rattle.live_view.specs.Shows.{Shows, all_noted}
 use Rattle.live_view.proofs.Lists.{filter_length}
 use Rattle.live_view.proofs.Kept.{Kept, kept_none, kept_all}
 

@@ -1,29 +1,19 @@
 -- One message more, in the state and in what it says.
-use Rattle.std.proofs.Common.{◌≡◌, ◌≢◌, ℕ, ℤ, pos, zero, suc, ◌+◌, ◌-◌, ◌<◌, ◌≤◌, ◌==◌, ◌&&◌, min, Bool, true, false, cond, List, [], ◌∷◌, ◌++◌, length, map, get_or, set, replicate, fold, filter, take, refl, sym, ap, ◌∙◌, arith, subst, append_assoc, length-append}
-use Rattle.std.specs.Prelude.{nat_lt}
-use Rattle.std.specs.List.{range_with_len}
-use Rattle.packet_key.specs.declared.key.FlowKey.{FlowKey}
-use Rattle.hash_rows.specs.declared.shape.Flow.{Flow}
+use Rattle.std.proofs.Common.{◌≡◌, ℕ, ℤ, pos, suc, ◌+◌, ◌-◌, ◌<◌, ◌==◌, Bool, true, false, cond, List, [], ◌∷◌, ◌++◌, length, map, get_or, set, replicate, fold, filter, refl, sym, ap, ◌∙◌, arith, length-append}
 use Rattle.hash_rows.specs.declared.shape.Push.{Push}
 use Rattle.hash_rows.specs.declared.shape.Shape.{Shape}
 use Rattle.hash_rows.specs.Rules.{Rules}
 use Rattle.hash_rows.specs.Shapes.{size_of}
-use Rattle.hash_rows.specs.Tables.{Figures}
-use Rattle.heavy_keys.specs.Noted.{HeavyTable, noted, fresh_table}
 use Rattle.push_history.specs.Told.{told_of}
 use Rattle.push_history.specs.Shown.{told_cells}
 use Rattle.push_history.specs.Front.{message_at, messages_of, front_of, upto_of, uptos_of}
-use Rattle.push_history.specs.LiveHeavy.{note_at, notes_of}
-use Rattle.std.proofs.lemmas.List.{map-append, length-replicate, get_or-replicate, get_or_append_left}
-use Rattle.std.proofs.lemmas.List.Elements.{All-head, All-tail}
-use Rattle.std.proofs.lemmas.List.FromFn.{fill_by_all, get_or-map-range_with_len, map-range_with_len_more}
+use Rattle.std.proofs.lemmas.List.{get_or_push, map-append, length-replicate, get_or-replicate}
+use Rattle.std.proofs.lemmas.List.FromFn.{fill_by_all, get_or-map-range_with_len}
 use Rattle.std.proofs.lemmas.List.Sums.{fold-append}
-use Rattle.std.proofs.lemmas.List.{take_all, append-nil}
 use Rattle.std.proofs.lemmas.Bool.Decides.{nat_tests}
-use Rattle.live_view.specs.declared.layout.Layout.{Layout}
-use Rattle.live_view.specs.Fold.{Fold, most, fits, added, absorbed, fresh_state, state_after, Fit, layout_of, key_noted, one_more}
-use Rattle.live_view.specs.Shows.{Shows, heavy_after, all_noted}
-use Rattle.live_view.proofs.Lists.{filter_push, filter_length, set_made, get_or_last, take_before, made_same}
+use Rattle.live_view.specs.Fold.{most, one_more}
+use Rattle.push_history.proofs.Lists.{filter_push_no, filter_push_yes}
+use Rattle.live_view.proofs.Lists.{filter_length, set_made}
 
 told_by : (r : Rules) (cell : ℕ) (messages : List Push) (m : Push) (b : Bool) → (m.cell == cell) ≡ b
     → told_of r cell (messages ++ m ∷ []) ≡ cond b (r.join (told_of r cell messages) m.amount) (told_of r cell messages)
@@ -31,10 +21,10 @@ unfolding told_of
 told_by r cell messages m true is =
     let kept = filter (λ (x : Push). x.cell == cell) messages in
     let amounts = map (λ (x : Push). x.amount) kept in
-    ap (λ (l : List Push). fold r.join (pos 0) (map (λ (x : Push). x.amount) l)) (filter_push (λ (x : Push). x.cell == cell) messages m true is)
+    ap (λ (l : List Push). fold r.join (pos 0) (map (λ (x : Push). x.amount) l)) (filter_push_yes (λ (x : Push). x.cell == cell) messages m is)
     ∙ (ap (fold r.join (pos 0)) (map-append (λ (x : Push). x.amount) kept (m ∷ [])) ∙ fold-append r.join (pos 0) amounts (m.amount ∷ []))
 told_by r cell messages m false is =
-    ap (λ (l : List Push). fold r.join (pos 0) (map (λ (x : Push). x.amount) l)) (filter_push (λ (x : Push). x.cell == cell) messages m false is)
+    ap (λ (l : List Push). fold r.join (pos 0) (map (λ (x : Push). x.amount) l)) (filter_push_no (λ (x : Push). x.cell == cell) messages m is)
 
 same_self : (n : ℕ) → (n == n) ≡ true
 same_self n = grind (arith, nat_tests)
@@ -75,10 +65,10 @@ front_more workers messages m front is inside short =
     ap (λ l. get_or l m.worker 0) is ∙ get_or-map-range_with_len (λ w. length (messages_of w messages)) 0 workers m.worker m.worker 0 inside (omega arith) in
     let few = filter_length (λ (x : Push). x.worker == m.worker) messages in
     let more : length (messages_of m.worker (messages ++ m ∷ [])) ≡ length (messages_of m.worker messages) + 1 =
-    ap length (filter_push (λ (x : Push). x.worker == m.worker) messages m true (same_self m.worker)) ∙ length-append (messages_of m.worker messages) (m ∷ []) in
+    ap length (filter_push_yes (λ (x : Push). x.worker == m.worker) messages m (same_self m.worker)) ∙ length-append (messages_of m.worker messages) (m ∷ []) in
     set_made (λ w. length (messages_of w messages)) (λ w. length (messages_of w (messages ++ m ∷ []))) front workers m.worker _ 0 is inside
     (omega (arith, more, at, few, short))
-    (λ k apart. ap length (filter_push (λ (x : Push). x.worker == k) messages m false apart))
+    (λ k apart. ap length (filter_push_no (λ (x : Push). x.worker == k) messages m apart))
 
 -- the last updates
 
@@ -90,7 +80,7 @@ last_update messages m =
     let some : (length all == 0) ≡ false = grind (arith, nat_tests) in
     let before : length all - 1 ≡ length messages = omega (arith, long) in
     ap (λ b. cond b 0 ((message_at all (length all - 1)).update + 1)) some
-    ∙ (ap (λ n. (message_at all n).update + 1) before ∙ ap (λ (x : Push). x.update + 1) (get_or_last messages m _))
+    ∙ (ap (λ n. (message_at all n).update + 1) before ∙ ap (λ (x : Push). x.update + 1) (get_or_push messages m _ (length messages) refl))
 
 -- what `uptos_of` says of a worker
 abbrev last_of : List Push → ℕ → ℕ
@@ -106,37 +96,5 @@ pub upto_more : (workers : ℕ) (messages : List Push) (m : Push) (upto : List �
 unfolding uptos_of
 upto_more workers messages m upto is inside =
     set_made (last_of messages) (last_of (messages ++ m ∷ [])) upto workers m.worker _ 0 is inside
-    (ap (λ (l : List Push). upto_of l (length l)) (filter_push (λ (x : Push). x.worker == m.worker) messages m true (same_self m.worker)) ∙ last_update (messages_of m.worker messages) m)
-    (λ k apart. ap (λ (l : List Push). upto_of l (length l)) (filter_push (λ (x : Push). x.worker == k) messages m false apart))
-
--- the notes
-
-note_before : (r : Rules) (shape : Shape) (messages : List Push) (m : Push) (p : ℕ) → p < length messages → note_at r shape (messages ++ m ∷ []) p ≡ note_at r shape messages p
-unfolding note_at
-note_before r shape messages m p lt =
-    let key : message_at (messages ++ m ∷ []) p ≡ message_at messages p = get_or_append_left messages (m ∷ []) _ p lt in
-    let front : take (p + 1) (messages ++ m ∷ []) ≡ take (p + 1) messages = take_before messages (m ∷ []) (p + 1) (omega arith) in
-    λ i. record { key = (key i).key; estimate = r.estimate shape (told_cells r shape (front i)) (key i).key }
-
-note_last : (r : Rules) (shape : Shape) (messages : List Push) (m : Push)
-    → note_at r shape (messages ++ m ∷ []) (length messages) ≡ record { key = m.key; estimate = r.estimate shape (told_cells r shape (messages ++ m ∷ [])) m.key }
-unfolding note_at
-note_last r shape messages m =
-    let key : message_at (messages ++ m ∷ []) (length messages) ≡ m = get_or_last messages m _ in
-    let all : take (length messages + 1) (messages ++ m ∷ []) ≡ messages ++ m ∷ [] = take_all (length messages + 1) (messages ++ m ∷ []) (omega (arith, length-append messages (m ∷ []))) in
-    λ i. record { key = (key i).key; estimate = r.estimate shape (told_cells r shape (all i)) (key i).key }
-
-no_note : Flow
-no_note = record { key = (message_at [] 0).key; estimate = pos 0 }
-
-pub notes_more : (r : Rules) (shape : Shape) (messages : List Push) (m : Push)
-    → notes_of r shape (messages ++ m ∷ []) ≡ notes_of r shape messages ++ record { key = m.key; estimate = r.estimate shape (told_cells r shape (messages ++ m ∷ [])) m.key } ∷ []
-unfolding notes_of
-notes_more r shape messages m =
-    let n = length messages in
-    let long : length (messages ++ m ∷ []) ≡ n + 1 = omega (arith, length-append messages (m ∷ [])) in
-    let f = note_at r shape (messages ++ m ∷ []) in
-    ap (λ k. map f (range_with_len 0 k)) long
-    ∙ (map-range_with_len_more f 0 n n (omega arith)
-    ∙ (ap (λ l. l ++ f n ∷ []) (made_same f (note_at r shape messages) n no_note (note_before r shape messages m))
-    ∙ ap (λ x. map (note_at r shape messages) (range_with_len 0 n) ++ x ∷ []) (note_last r shape messages m)))
+    (ap (λ (l : List Push). upto_of l (length l)) (filter_push_yes (λ (x : Push). x.worker == m.worker) messages m (same_self m.worker)) ∙ last_update (messages_of m.worker messages) m)
+    (λ k apart. ap (λ (l : List Push). upto_of l (length l)) (filter_push_no (λ (x : Push). x.worker == k) messages m apart))

@@ -1,5 +1,5 @@
 -- What an entry makes of a page whose cells stand bare.
-use Rattle.std.proofs.Common.{◌≡◌, ℕ, ℤ, ◌<◌, ◌&&◌, Bool, true, false, cond, List, length, get_or, set, pos, to_z, of_z, w64, refl, sym, ap, ◌∙◌, arith}
+use Rattle.std.proofs.Common.{◌≡◌, ℕ, ℤ, ◌<◌, ◌&&◌, true, false, cond, List, length, get_or, set, pos, to_z, of_z, w64, sym, ap, ◌∙◌, arith}
 use Rattle.std.specs.Prelude.{nat_lt, slice_get, Some}
 use Rattle.std.proofs.lemmas.Int.{to_z-of_z}
 use Rattle.std.proofs.lemmas.Option.{get_or_from_slice_get}
@@ -11,10 +11,10 @@ use Rattle.hash_rows.specs.declared.shape.Shape.{Shape}
 use Rattle.hash_rows.specs.Rules.{Rules}
 use Rattle.hash_rows.specs.Shapes.{size_of}
 use Rattle.hash_rows.specs.Tables.{Figures, joined_at}
-use Rattle.heavy_keys.specs.Noted.{HeavyTable, noted}
+use Rattle.heavy_keys.specs.Noted.{noted}
 use Rattle.live_view.specs.declared.history.Entry.{Entry}
 use Rattle.live_view.specs.declared.layout.Layout.{Layout}
-use Rattle.live_view.specs.Fold.{Fold, fits, added, layout_of}
+use Rattle.live_view.specs.Fold.{fits, added, layout_of}
 use Rattle.live_view.specs.Tallies.{Tallied, counted, key_noted_in, table_noted}
 use Rattle.live_view.specs.Sights.{Sight, Page}
 use Rattle.live_view.specs.Rule.{turned}

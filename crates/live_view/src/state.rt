@@ -115,6 +115,21 @@ impl<K: Kind> State<K> {
         self.tally.upto()[worker as usize]
     }
 
+    /// How many messages of each worker were folded.
+    pub fn fronts(&self) -> &[u64]
+        ensures { result.now ≡ self.now.front }
+    {
+        self.tally.front()
+    }
+
+    /// For each worker one more than its last folded update, 0 where there is none.
+    pub fn uptos(&self) -> &[u64]
+        ensures counts { result.now ≡ self.now.upto }
+        ensures workers { length self.now.upto ≡ length self.now.front }
+    {
+        self.tally.upto()
+    }
+
     /// How many messages were folded.
     pub fn folded(&self) -> u64
         ensures { result ≡ self.now.folded }

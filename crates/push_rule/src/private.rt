@@ -1,4 +1,4 @@
-ghost use Rattle.std.specs.Prelude.{◌≡◌, ◌<◌, ◌≤◌, ◌+◌, ◌-◌, ℕ, ℤ, [], ◌∷◌, ◌++◌, List, length, true, false, nat_le, Some, None, IsSome, IfOk, MatchOption, option_map, slice_index_or};
+ghost use Rattle.std.specs.Prelude.{◌≡◌, ◌<◌, ◌≤◌, ◌+◌, ◌-◌, ℕ, ℤ, [], ◌∷◌, ◌++◌, List, length, true, false, nat_le, nat_lt, Some, None, IsSome, IfOk, MatchOption, option_map, slice_index_or};
 ghost use Rattle.packet_key.specs.declared.key.FlowKey.{FlowKey};
 ghost use Rattle.hash_rows.specs.declared.shape.Push.{Push};
 ghost use Rattle.hash_rows.specs.declared.shape.Update.{Update};
@@ -178,6 +178,13 @@ impl<K: Kind> Private<K> {
         ensures { result ≡ self.now.counted }
     {
         self.counted
+    }
+
+    /// Whether there are updates left to count.
+    pub fn has_left(&self) -> bool
+        ensures { result ≡ nat_lt self.now.counted self.now.room }
+    {
+        self.counted < self.room
     }
 
     /// Whether the push of this update was refused.

@@ -1,4 +1,4 @@
-use Rattle.std.proofs.Common.{◌≡◌, ℕ, ◌<◌, length, take, pos}
+use Rattle.std.proofs.Common.{◌≡◌, length, take}
 use Rattle.live_view.specs.Copies.{estimates_in}
 use Rattle.live_view.proofs.copies.estimate_all.Given as goal
 

@@ -1,7 +1,7 @@
-use Rattle.std.proofs.Common.{rules, ◌≡◌, ◌≤◌, ◌<◌, length, arith, ap, ◌∙◌, ◌+◌, ℤ, List, sym, subst, refl}
+use Rattle.std.proofs.Common.{rules, ◌≡◌, ◌≤◌, ◌<◌, length, ap, ◌∙◌, ◌+◌, ℤ, List, sym, subst, refl}
 use Rattle.std.proofs.lemmas.List.{length-replicate, length-set}
 use Rattle.std.specs.Prelude.{pos, true, slice_index_or}
-use Rattle.hash_rows.specs.Tables.{Figures, joined_at}
+use Rattle.hash_rows.specs.Tables.{joined_at}
 use Rattle.live_view.proofs.Copied.{AreCopied, none_copied, one_copied, all_copied}
 use Rattle.live_view.proofs.copies.fill_table.Goals as goal
 

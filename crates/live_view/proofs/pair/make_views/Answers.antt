@@ -1,15 +1,21 @@
-use Rattle.std.proofs.Common.{rules, ◌≡◌, ◌<◌, ℕ, [], ◌∷◌, ◌++◌, length, sym, subst, ap, ◌∙◌}
+use Rattle.std.proofs.Common.{rules, ◌≡◌, [], ◌∷◌, ◌++◌, sym, subst, ap, ◌∙◌}
 use Rattle.std.specs.Prelude.{All}
 use Rattle.std.proofs.lemmas.List.Elements.{All-append, All-cons, All-nil}
 use Rattle.logbook.specs.Pages.{Book}
 use Rattle.live_view.specs.declared.layout.Layout.{Layout}
-use Rattle.live_view.specs.Sights.{Desk, Glass, layout_for}
+use Rattle.live_view.specs.Fold.{Fold, IsFoldOf}
+use Rattle.live_view.specs.Sights.{Desk, Glass, Page, layout_for}
 use Rattle.live_view.proofs.Lists.{one_longer}
-use Rattle.live_view.proofs.Turns.{opens}
+use Rattle.live_view.proofs.Turns.{empty, opens}
 use Rattle.live_view.proofs.pair.make_views.Goals as goal
 
 pub new-requires-4-clause-rule : goal.new-requires-4-clause-rule
 new-requires-4-clause-rule g c = opens g.K.Kind.rules _ (layout_for c.args.shape c.args.workers c.args.heavy c.args.least) (search rules) (search rules)
+
+pub over-writer-requires-clause-zero : goal.over-writer-requires-clause-zero
+over-writer-requires-clause-zero g c κs within =
+    let figures = ap (λ (p : Page). p.figures) c.in-Ok.ensures.0 ∙ c.in_ok-first.ensures.figures in
+    subst (λ (s : Fold). IsFoldOf g.K.Kind.rules s []) (sym figures) (empty g.K.Kind.rules _)
 
 pub loop-preserved : goal.loop-preserved
 loop-preserved g c =

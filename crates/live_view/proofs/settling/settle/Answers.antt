@@ -1,10 +1,10 @@
-use Rattle.std.proofs.Common.{rules, ◌≡◌, ◌<◌, ℕ, List, [], length, refl, sym, ap, ◌∙◌, subst}
+use Rattle.std.proofs.Common.{rules, ◌≡◌, ◌<◌, ℕ, List, length, sym, subst}
 use mathlib.Core.List.{IsPrefix}
 use Rattle.hash_rows.specs.declared.shape.Push.{Push}
 use Rattle.live_view.specs.Copies.{IsCopyOf}
 use Rattle.live_view.specs.Fold.{most, state_after}
 use Rattle.live_view.proofs.Prefixes.{prefix_self, prefix_trans}
-use Rattle.live_view.proofs.Settled.{Settling, asked_once, settled, rest_same}
+use Rattle.live_view.proofs.Settled.{asked_once, settled, rest_same}
 use Rattle.live_view.proofs.settling.settle.Goals as goal
 
 pub loop-init : goal.loop-init

@@ -1,6 +1,5 @@
 use Rattle.std.proofs.Common.{◌≡◌, length, ap, ◌∙◌, arith}
 use Rattle.live_view.specs.Sights.{Sight}
-use Rattle.live_view.specs.Fold.{Fold}
 use Rattle.live_view.proofs.Folds.{count_is}
 use Rattle.live_view.proofs.view.taken.Goals as goal
 

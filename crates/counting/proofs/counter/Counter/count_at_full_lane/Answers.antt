@@ -1,13 +1,8 @@
-use Rattle.std.proofs.Common.{rules, ◌≡◌, ◌<◌, ◌≤◌, ◌+◌, ◌++◌, ◌∷◌, [], ◌∙◌, sym, ap, subst, refl, true, false, Bool, to_z, of_z, w64, ℤ, ℕ, List, arith, take, length}
-use Rattle.std.specs.Prelude.{◌&&◌, nat_le, Option, Some, None}
-use Rattle.std.proofs.lemmas.Int.{to_z-of_z}
-use mir.Val.{SFits}
-use Rattle.hash_rows.specs.declared.options.Full.{Full}
-use Rattle.hash_rows.specs.declared.options.Full.TheVariants.{Leave, Wait}
+use Rattle.std.proofs.Common.{◌≡◌, ◌≤◌, ◌∙◌, sym, subst, true}
+use Rattle.std.specs.Prelude.{◌&&◌, nat_le}
 use Rattle.push_history.specs.LagRun.{updates_by}
 use Rattle.push_history.specs.Pushes.{distance_at}
-use Rattle.counting.specs.Desk.{Desk, is_wait}
-use Rattle.counting.specs.Keeps.{Keeps}
+use Rattle.counting.specs.Desk.{is_wait}
 use Rattle.counting.proofs.Steps.{after_waits, distance_is, wait_of}
 use Rattle.counting.proofs.counter.Counter.count_at_full_lane.Goals as goal
 

@@ -1,11 +1,7 @@
-use Rattle.std.proofs.Common.{rules, ◌≡◌, ◌<◌, ◌≤◌, ◌+◌, ◌++◌, ◌∷◌, [], ◌∙◌, sym, ap, subst, refl, true, false, Bool, to_z, of_z, w64, ℤ, ℕ, List, arith, take, length}
-use Rattle.std.specs.Prelude.{◌&&◌, nat_le, Option, Some, None}
+use Rattle.std.proofs.Common.{rules, ◌≡◌, ◌≤◌, ◌∙◌, sym, ap, subst, refl, false, w64, length}
+use Rattle.std.specs.Prelude.{◌&&◌, nat_le, Some, None}
 use Rattle.std.proofs.lemmas.Int.{to_z-of_z}
 use mir.Val.{SFits}
-use Rattle.hash_rows.specs.declared.options.Full.{Full}
-use Rattle.hash_rows.specs.declared.options.Full.TheVariants.{Leave, Wait}
-use Rattle.push_history.specs.LagRun.{updates_by}
-use Rattle.push_history.specs.Pushes.{distance_at}
 use Rattle.counting.specs.Desk.{Desk, is_wait, in_lane}
 use Rattle.counting.specs.Keeps.{Keeps}
 use Rattle.counting.proofs.Steps.{owes_next, counted_next, refused_next, after_quiet, after_refused, distance_is, leave_of}

@@ -1,14 +1,11 @@
-use Rattle.std.proofs.Common.{rules, ◌≡◌, ◌<◌, ◌≤◌, ◌+◌, ◌++◌, ◌∷◌, [], ◌∙◌, sym, ap, subst, refl, true, false, Bool, to_z, of_z, w64, ℤ, ℕ, List, arith, take, length, length-take}
-use Rattle.std.specs.Prelude.{◌&&◌, nat_le, Option, Some, None}
+use Rattle.std.proofs.Common.{rules, ◌≡◌, ◌<◌, ◌++◌, ◌∷◌, [], ◌∙◌, sym, ap, subst, refl, w64, arith, length-take}
+use Rattle.std.specs.Prelude.{Some, None}
 use Rattle.std.proofs.lemmas.Int.{to_z-of_z}
 use mir.Val.{SFits}
-use Rattle.hash_rows.specs.declared.options.Full.{Full}
-use Rattle.hash_rows.specs.declared.options.Full.TheVariants.{Leave, Wait}
 use Rattle.hash_rows.specs.declared.shape.Push.{Push}
 use Rattle.push_history.specs.declared.event.Reply.TheVariants.{Pushed}
 use Rattle.push_history.specs.LagRun.{updates_by}
-use Rattle.push_history.specs.Pushes.{distance_at}
-use Rattle.counting.specs.Desk.{Desk, is_wait, in_lane}
+use Rattle.counting.specs.Desk.{Desk, in_lane}
 use Rattle.counting.specs.Keeps.{Keeps}
 use Rattle.counting.proofs.Steps.{owes_next, counted_next, sent_next, queued_is, after_quiet, after_sent}
 use Rattle.counting.proofs.counter.Counter.count_with_room.Goals as goal

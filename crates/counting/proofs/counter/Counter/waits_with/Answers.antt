@@ -1,8 +1,7 @@
-use Rattle.std.proofs.Common.{rules, ◌≡◌, ◌∙◌, sym, ap, subst, true, Bool, to_z, of_z, w64, ℤ}
+use Rattle.std.proofs.Common.{rules, ◌≡◌, ◌∙◌, sym, ap, subst, true, Bool, w64}
 use Rattle.std.specs.Prelude.{◌&&◌, nat_le}
 use Rattle.std.proofs.lemmas.Int.{to_z-of_z}
 use mir.Val.{SFits}
-use Rattle.hash_rows.specs.declared.options.Full.{Full}
 use Rattle.push_history.specs.LagRun.{updates_by}
 use Rattle.push_history.specs.Pushes.{distance_at}
 use Rattle.counting.specs.Desk.{Desk, is_wait}

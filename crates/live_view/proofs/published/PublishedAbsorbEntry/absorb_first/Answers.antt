@@ -1,8 +1,8 @@
-use Rattle.std.proofs.Common.{rules, ◌≡◌, ◌<◌, length, List, ℤ, Bool, true, false, to_z, of_z, w64, ap, sym, ◌∙◌, subst, length-set}
+use Rattle.std.proofs.Common.{rules, ◌≡◌, ◌<◌, length, List, ℤ, true, false, w64, ap, sym, ◌∙◌, subst, length-set}
 use mir.Val.{SFits}
 use Rattle.hash_rows.specs.Rules.{AreValues}
 use Rattle.hash_rows.specs.Shapes.{size_of}
-use Rattle.hash_rows.specs.Tables.{joined_at, Figures}
+use Rattle.hash_rows.specs.Tables.{Figures}
 use Rattle.hash_rows.proofs.Values.{values_joined}
 use Rattle.live_view.specs.Rule.{turned}
 use Rattle.live_view.specs.Tallies.{counted, key_noted_in, table_noted}

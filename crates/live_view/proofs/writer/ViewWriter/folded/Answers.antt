@@ -1,5 +1,4 @@
 use Rattle.std.proofs.Common.{◌<◌, ℕ, sym, subst, ap, ◌∙◌, length}
-use Rattle.live_view.specs.Fold.{Fold}
 use Rattle.live_view.specs.Sights.{Page}
 use Rattle.live_view.specs.Fold.{most}
 use Rattle.live_view.specs.declared.rule.Notes.{Notes}
