@@ -1,0 +1,14 @@
+pub mod Lists
+pub mod OwnRounds
+pub mod Measure
+pub mod Fitting
+pub mod Idle
+pub mod Firsts
+pub mod Looks
+pub mod Marked
+pub mod Ended
+pub mod Answered
+pub mod Journals
+pub mod Wholes
+pub mod Settled
+pub mod Near

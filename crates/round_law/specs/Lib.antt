@@ -1,0 +1,2 @@
+pub mod OwnRounds
+pub mod Outcome
