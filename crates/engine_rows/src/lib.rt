@@ -1,0 +1,5 @@
+//! Worked rows of the engine, at each kind.
+#![tactic(auto)]
+
+#[cfg(test)]
+mod tests;

@@ -1,0 +1,7 @@
+pub mod Answers
+pub mod Counts
+pub mod Looks
+pub mod Parts
+pub mod Residues
+pub mod Rounds
+pub mod Settles

@@ -1,0 +1,159 @@
+ghost use Rattle.std.specs.Prelude.{◌≡◌, ◌<◌, ◌≤◌, ◌+◌, ◌-◌, ◌*◌, ℕ, length, min, true, false, IfSome, MatchOption};
+ghost use Rattle.hash_rows.specs.Shapes.{IsShape, size_of};
+ghost use Rattle.push_history.specs.LagRun.{Terms, Worker};
+ghost use Rattle.push_history.specs.OwnSteps.{counted_in_round, counts};
+ghost use Rattle.push_history.specs.Rounds.{is_waits};
+ghost use Rattle.counting.specs.Desk.{Extends, SameDesk};
+ghost use Rattle.counting.specs.Keeps.{Keeps};
+ghost use Rattle.octo_engine.specs.Counts.{AreNext, HasCounted, HasMoved, HasShare, IsFit};
+
+use counting::Counter;
+use hash_rows::{Kind, Options, Packet, Shape, Update, cell_in_row, hash_in_row, key_hash};
+use push_history::Reply;
+
+/// Counts the worker's next updates, as many as a round has, ending early where a push waits.
+pub fn count_in_round<K: Kind>(
+    counter: &mut Counter<K>,
+    share: &[u32],
+    packets: &[Packet],
+    options: &Options,
+)
+    requires shape { IsShape options.now.shape }
+    requires round { options.now.round ≤ 65536 }
+    requires fit { IsFit options.now (length packets.now) share.now counter.old }
+    requires room { counter.old.taken + options.now.lane < counter.old.room }
+    ensures keeps { (t : Terms) (w : ℕ) (x : Worker) → HasShare K.rules t options.now.shape packets.now w share.now
+        → Keeps K.stands t w counter.old x → Keeps K.stands t w counter.new (counted_in_round t options.now w x) }
+    ensures fit { IsFit options.now (length packets.now) share.now counter.new }
+    ensures same { SameDesk counter.old counter.new }
+    ensures grows { Extends counter.old.queue counter.new.queue }
+{
+    let count = due_in_round(counter, share, packets, options);
+    count_updates(counter, share, packets, options, count);
+}
+
+// How many updates the worker counts in the round, unless a push waits.
+fn due_in_round<K: Kind>(
+    counter: &Counter<K>,
+    share: &[u32],
+    packets: &[Packet],
+    options: &Options,
+) -> u32
+    requires shape { IsShape options.now.shape }
+    requires round { options.now.round ≤ 65536 }
+    requires fit { IsFit options.now (length packets.now) share.now counter.now }
+    ensures { result ≡ min (options.now.shape.rows * options.now.round) (counter.now.sketch.room - counter.now.sketch.counted) }
+{
+    let _packets = packets;
+    let rows = options.shape.rows;
+    let left = rows * share.len() as u32 - counter.counted();
+    left.min(rows * options.round)
+}
+
+// Counts so many of the worker's next updates, ending early where a push waits.
+fn count_updates<K: Kind>(
+    counter: &mut Counter<K>,
+    share: &[u32],
+    packets: &[Packet],
+    options: &Options,
+    count: u32,
+)
+    requires shape { IsShape options.now.shape }
+    requires fit { IsFit options.now (length packets.now) share.now counter.old }
+    requires room { counter.old.taken + options.now.lane < counter.old.room }
+    requires count { counter.old.sketch.counted + count ≤ counter.old.sketch.room }
+    ensures keeps { (t : Terms) (w : ℕ) (x : Worker) → HasShare K.rules t options.now.shape packets.now w share.now
+        → Keeps K.stands t w counter.old x → Keeps K.stands t w counter.new (counts t w count x) }
+    ensures fit { IsFit options.now (length packets.now) share.now counter.new }
+    ensures same { SameDesk counter.old counter.new }
+    ensures grows { Extends counter.old.queue counter.new.queue }
+{
+    let mut left = count;
+    while left > 0 {
+        match count_packet(counter, share, packets, options, left) {
+            Some(some) => left -= some,
+            None => return,
+        }
+    }
+}
+
+// Counts the worker's next updates of one packet, at most so many. Answers how many, or None where
+// a push waits.
+fn count_packet<K: Kind>(
+    counter: &mut Counter<K>,
+    share: &[u32],
+    packets: &[Packet],
+    options: &Options,
+    count: u32,
+) -> Option<u32>
+    requires shape { IsShape options.now.shape }
+    requires fit { IsFit options.now (length packets.now) share.now counter.old }
+    requires room { counter.old.taken + options.now.lane < counter.old.room }
+    requires count { (1 ≤ count) × (counter.old.sketch.counted + count ≤ counter.old.sketch.room) }
+    ensures some { IfSome result (λ some. (1 ≤ some) × (some ≤ count)) }
+    ensures keeps { (t : Terms) (w : ℕ) (x : Worker) → HasShare K.rules t options.now.shape packets.now w share.now
+        → Keeps K.stands t w counter.old x
+        → MatchOption result (HasCounted K.stands t w x count true counter.new) (λ some. HasCounted K.stands t w x some false counter.new) }
+    ensures moved { MatchOption result (HasMoved counter.old counter.new count true) (λ some. HasMoved counter.old counter.new some false) }
+{
+    // A copy, of which the loop over the rows reads nothing again.
+    let shape = options.shape;
+    let rows = shape.rows;
+    let next = counter.counted();
+    let first = next % rows;
+    let last = rows.min(first + count);
+    let position = share[(next / rows) as usize];
+    let packet = &packets[position as usize];
+    if count_rows(counter, packet, position, &shape, first, last) {
+        None
+    } else {
+        Some(last - first)
+    }
+}
+
+// Counts what the packet adds in some of its rows. Answers whether a push has to wait. The key's
+// bytes are hashed once.
+fn count_rows<K: Kind>(
+    counter: &mut Counter<K>,
+    packet: &Packet,
+    position: u32,
+    shape: &Shape,
+    first: u32,
+    last: u32,
+) -> bool
+    requires shape { IsShape shape.now }
+    requires rows { (first ≤ last) × (last ≤ shape.now.rows) }
+    requires updates { counter.old.sketch.counted + (last - first) ≤ counter.old.sketch.room }
+    requires cells { length counter.old.sketch.held ≡ size_of shape.now }
+    requires queue { length counter.old.queue ≤ counter.old.taken + counter.old.lane }
+    requires room { counter.old.taken + counter.old.lane < counter.old.room }
+    ensures keeps { (t : Terms) (w : ℕ) (x : Worker) → t.rules ≡ K.rules → Keeps K.stands t w counter.old x
+        → AreNext t w x shape.now packet.now position first last → HasCounted K.stands t w x (last - first) result counter.new }
+    ensures moved { HasMoved counter.old counter.new (last - first) result }
+{
+    let _amount = packet.amount;
+    let key = packet.key;
+    let key_hash = key_hash(&packet.key);
+    for row in first..last {
+        let hash = hash_in_row(key_hash, row);
+        let update = Update {
+            packet: position,
+            key,
+            cell: cell_in_row(shape, hash, row),
+            value: K::value_in_row(shape, packet, row, hash),
+        };
+        if is_waiting(counter.count(&update)) {
+            return true;
+        }
+    }
+    false
+}
+
+fn is_waiting(reply: Reply) -> bool
+    ensures { result ≡ is_waits reply }
+{
+    match reply {
+        Reply::Waits => true,
+        _ => false,
+    }
+}

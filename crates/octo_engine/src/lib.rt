@@ -1,0 +1,17 @@
+//! Workers that count side by side: runs in rounds.
+#![tactic(auto)]
+
+mod answers;
+mod block;
+mod counts;
+mod ending;
+mod fold;
+mod looks;
+mod part;
+mod rounds;
+mod settle;
+mod settled;
+mod setup;
+mod shares;
+
+pub use settled::{Settled, run_rounds};

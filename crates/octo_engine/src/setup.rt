@@ -1,0 +1,104 @@
+ghost use Rattle.std.specs.Prelude.{◌≡◌, ◌<◌, ◌≤◌, ◌^◌, ◌==◌, ◌+◌, ◌*◌, ℕ, [], All, length, filter, IfOk, OnOk, slice_index_or};
+ghost use Rattle.std.specs.List.{range_with_len};
+ghost use Rattle.hash_rows.specs.Lawful.{IsLawful};
+ghost use Rattle.hash_rows.specs.Shapes.{size_of};
+ghost use Rattle.push_history.specs.Journal.{terms_of};
+ghost use Rattle.push_history.specs.LagRun.{Terms, fresh_worker};
+ghost use Rattle.counting.specs.Keeps.{Keeps};
+ghost use Rattle.live_view.specs.Fold.{fresh_state};
+ghost use Rattle.octo_engine.specs.Looks.{layout_in};
+ghost use Rattle.octo_engine.specs.Parts.{IsSound, block};
+ghost use Rattle.octo_engine.specs.Rounds.{AreParts, Suit};
+
+use crate::part::{BLOCK, Part};
+use crate::shares::{owners_of, share_of_owner};
+use counting::Counter;
+use flow_base::NoMemory;
+use hash_rows::{Kind, Options, Packet};
+use listed::Listed;
+use live_view::State;
+use push_rule::Private;
+use std::alloc::Global;
+
+/// The parts of all workers, which have counted nothing.
+pub fn parts_of<K: Kind>(
+    alloc: Global,
+    packets: &[Packet],
+    options: &Options,
+) -> Result<Vec<Part<K>>, NoMemory>
+    requires lawful { IsLawful options.now }
+    requires sketch { options.now.sketch ≡ K.sketch }
+    requires few { length packets.now ≤ 16777216 }
+    ensures parts { IfOk result (λ parts. AreParts K.stands (terms_of packets.now options.now) options.now packets.now 0 parts.items) }
+    ensures amounts { OnOk result (All (λ p. p.amount < 2 ^ 32) packets.now) }
+{
+    let owners = owners_of(alloc, packets, options)?;
+    let Ok(mut parts) = Vec::with_capacity(alloc, options.workers as usize) else {
+        return Err(NoMemory);
+    };
+    for worker in 0..options.workers {
+        let part = part_of(alloc, &owners, worker, options)?;
+        parts.push_reserved(part);
+    }
+    Ok(parts)
+}
+
+/// The live state with no message.
+pub fn state_of<K: Kind>(alloc: Global, options: &Options) -> Result<State<K>, NoMemory>
+    requires { IsLawful options.now }
+    ensures { IfOk result (λ state. state ≡ fresh_state (layout_in options.now)) }
+{
+    let _least = options.least;
+    State::new(
+        alloc,
+        options.shape,
+        options.workers,
+        options.heavy,
+        options.least,
+    )
+}
+
+// The part of a worker that has counted nothing.
+fn part_of<K: Kind>(
+    alloc: Global,
+    owners: &Listed<u32>,
+    worker: u32,
+    options: &Options,
+) -> Result<Part<K>, NoMemory>
+    requires lawful { IsLawful options.now }
+    requires few { length owners.now.items ≤ 16777216 }
+    ensures share { IfOk result (λ part. part.share.items ≡ filter (λ i. slice_index_or owners.now.items i 0 == worker) (range_with_len 0 (length owners.now.items))) }
+    ensures sound { IfOk result (λ part. IsSound options.now (length owners.now.items) part) }
+    ensures fresh { IfOk result (λ part. (t : Terms) → Suit K.rules t options.now → Keeps K.stands t worker part.counter fresh_worker) }
+{
+    let share = share_of_owner(alloc, owners, worker)?;
+    let counter = counter_of(alloc, worker, share.len(), options)?;
+    let ends = Listed::filled(alloc, BLOCK + 1, 0)?;
+    Ok(Part {
+        share,
+        counter,
+        ends,
+    })
+}
+
+// The counter of a worker with so many packets.
+fn counter_of<K: Kind>(
+    alloc: Global,
+    worker: u32,
+    packets: u32,
+    options: &Options,
+) -> Result<Counter<K>, NoMemory>
+    requires lawful { IsLawful options.now }
+    requires few { packets ≤ 16777216 }
+    ensures updates { IfOk result (λ counter. (counter.sketch.room ≡ options.now.shape.rows * packets) × (counter.sketch.counted ≡ 0)) }
+    ensures cells { IfOk result (λ counter. length counter.sketch.held ≡ size_of options.now.shape) }
+    ensures queue { IfOk result (λ counter. (counter.queue ≡ []) × (counter.taken ≡ 0) × (counter.lane ≡ options.now.lane)) }
+    ensures room { IfOk result (λ counter. options.now.lane + block * options.now.batch < counter.room) }
+    ensures fresh { IfOk result (λ counter. (t : Terms) → Suit K.rules t options.now → Keeps K.stands t worker counter fresh_worker) }
+{
+    let shape = options.shape;
+    let cells = shape.rows * shape.columns;
+    let sketch = Private::new(alloc, cells, options.threshold, shape.rows * packets)?;
+    let room = options.lane + BLOCK * options.batch + 1;
+    Counter::new(alloc, worker, options.lane, options.full, sketch, room)
+}
