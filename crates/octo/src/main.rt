@@ -23,7 +23,7 @@ fn main(rt: HostRuntime) -> ExitCode {
         Ok(words) => {
             let mut source = StdSource::new(rt.reader());
             let mut out = StdSink::new(io::writer(&rt));
-            octo(rt.alloc(), &words, &mut source, &mut out, &mut err)
+            octo(&rt, rt.alloc(), &words, &mut source, &mut out, &mut err)
         }
         Err(error) if error.kind() == ErrorKind::OutOfMemory => tell(&mut err, Fault::NoMemory),
         Err(_) => tell(&mut err, Fault::Usage),

@@ -6,6 +6,10 @@ mod bytes;
 #[cfg(test)]
 mod faults;
 #[cfg(test)]
+mod journals;
+#[cfg(test)]
 mod lists;
 #[cfg(test)]
 mod runs;
+#[cfg(test)]
+mod workers;

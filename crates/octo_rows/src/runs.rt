@@ -1,7 +1,9 @@
-use flow_base::{MemSink, MemSource, NoMemory, Status};
+use crate::bytes::{HEAD_OF_54, LITTLE_HEADER, TCP_FRAME};
+use flow_base::{MemSink, MemSource, Status};
 use octo_run::octo;
 use std::alloc::{AllocError, Global};
 use std::test::Fail;
+use std::thread::Threads;
 
 /// How a run ended, and what it left.
 #[derive(Drop)]
@@ -35,7 +37,13 @@ pub const SMOOTH: Ways = Ways {
 };
 
 /// Runs octo on the words, which spaces part, and the parts of a capture.
-pub fn run(alloc: Global, line: &str, parts: &[&[u8]], ways: Ways) -> Result<Ended, Fail> {
+pub fn run<R: Threads + Sync>(
+    rt: &R,
+    alloc: Global,
+    line: &str,
+    parts: &[&[u8]],
+    ways: Ways,
+) -> Result<Ended, Fail> {
     let bytes = joined(alloc, parts)?;
     let words = words_of(alloc, line)?;
     let piece = ways.piece.max(1);
@@ -43,7 +51,7 @@ pub fn run(alloc: Global, line: &str, parts: &[&[u8]], ways: Ways) -> Result<End
     let at_a_time = ways.at_a_time.max(1);
     let mut out = MemSink::in_pieces(alloc, ways.room, at_a_time, ways.failing_writes)?;
     let mut err = MemSink::new(alloc, 65536, ways.failing_lines)?;
-    let status = octo(alloc, words.as_slice(), &mut source, &mut out, &mut err);
+    let status = octo(rt, alloc, words.as_slice(), &mut source, &mut out, &mut err);
     Ok(Ended { status, out, err })
 }
 
@@ -65,7 +73,29 @@ fn joined(alloc: Global, parts: &[&[u8]]) -> Result<Vec<u8>, AllocError> {
     Ok(all)
 }
 
-/// The error of a test that met no memory.
-pub fn no_memory(_error: NoMemory) -> Fail {
-    Fail::from("no memory")
+/// Whether a run that meets no fault leaves just this text, and nothing on the error output.
+pub fn tells<R: Threads + Sync>(
+    rt: &R,
+    alloc: Global,
+    line: &str,
+    parts: &[&[u8]],
+    expected: &[&str],
+) -> Result<bool, Fail> {
+    let end = run(rt, alloc, line, parts, SMOOTH)?;
+    let mut text = String::new(alloc);
+    for piece in expected {
+        text.push_str(piece)?;
+    }
+    Ok(end.status == Status::Done && end.out.held() == text.as_bytes() && end.err.held().is_empty())
+}
+
+/// A capture with so many records of the TCP frame.
+pub fn repeated(alloc: Global, count: u32) -> Result<Vec<u8>, AllocError> {
+    let mut bytes = Vec::new(alloc);
+    bytes.extend_from_slice(LITTLE_HEADER)?;
+    for _ in 0..count {
+        bytes.extend_from_slice(HEAD_OF_54)?;
+        bytes.extend_from_slice(TCP_FRAME)?;
+    }
+    Ok(bytes)
 }

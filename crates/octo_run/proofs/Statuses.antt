@@ -1,8 +1,8 @@
 -- Which fault a status comes with.
 use Rattle.std.proofs.Common.{◌≡◌, refl, ap, ◌⊎◌, inl, inr}
-use Rattle.std.specs.Prelude.{Result, Ok, Err}
+use Rattle.std.specs.Prelude.{Result, Err}
 use Rattle.flow_base.specs.declared.status.Status.{Status}
-use Rattle.flow_base.specs.declared.status.Status.TheVariants.{Done, Usage, ReadFault, WriteFault, BadCapture, TooMany, NoMemory}
+use Rattle.flow_base.specs.declared.status.Status.TheVariants.{Done, ReadFault, WriteFault, BadCapture, TooMany}
 use Rattle.pcap_read.specs.declared.bad.Bad.{Bad}
 use Rattle.pcap_read.specs.declared.bad.Bad.TheVariants.{ShortHeader, UnknownMagic, PcapNg, BadVersion, NotEthernet, TooLong}
 use Rattle.pcap_read.specs.declared.bad.Bad.TheVariants.{TooMany as TooManyRecords}

@@ -1,9 +1,7 @@
 -- What a run does with the bytes that its source gives.
-use Rattle.std.specs.Prelude.{◌≡◌, ◌≢◌, ◌⊎◌, ℕ, ◌++◌, List, [], length, Option, Some}
+use Rattle.std.specs.Prelude.{◌≡◌, ℕ, ◌++◌, List, [], length, Option}
 use Rattle.flow_base.specs.Flow.{grown, TookFront, Given}
-use Rattle.flow_base.specs.declared.status.Status.{Status}
-use Rattle.flow_base.specs.declared.status.Status.TheVariants.{Done, WriteFault}
-use Rattle.pcap_read.specs.Capture.{CaptureOf, RefusesNext, Outcome, Whole, Refused}
+use Rattle.pcap_read.specs.Capture.{CaptureOf, RefusesNext, Whole}
 use Rattle.pcap_read.specs.Records.{Framed}
 use Rattle.pcap_read.specs.declared.bad.Bad.{Bad}
 use Rattle.hash_rows.specs.declared.options.Options.{Options}
@@ -12,9 +10,12 @@ use Rattle.words.specs.declared.command.Command.TheVariants.{Run, Load}
 use Rattle.capture_load.specs.Generated.{generated}
 use Rattle.capture_load.specs.Loads.{record_limit, HoldsRefusal}
 use Rattle.capture_load.specs.Packets.{packets_of, tallies_of}
+use Rattle.push_history.specs.Journal.{Journal}
+use Rattle.push_history.specs.Rounds.{IsRoundsJournal}
 use Rattle.octo_text.specs.declared.report.Report.{Report}
 use Rattle.octo_text.specs.ReportText.{report_text}
 use Rattle.reports.specs.ReportOf.{IsReport}
+use Rattle.octo_run.specs.Results.{asked_text}
 
 -- the text is the report of these bytes by these options: of the capture that they are, its packets, and the one table
 -- that takes every packet
@@ -26,13 +27,22 @@ pub record IsReportText (o : Options) (bytes text : List ℕ) : Type 0 where
   pub report_is : IsReport (packets_of o.amount frames) (length frames) (tallies_of frames) cut o report
   pub text_is : text ≡ report_text report
 
--- all bytes were given, and the sink took their report
-abbrev pub Reported : Options → Option (List ℕ) → Option (List ℕ) → List ℕ → List ℕ → Type 0
-Reported o before after given rest = (rest ≡ []) × (text : List ℕ) × IsReportText o given text × (after ≡ grown before text)
+-- the text is the report of these bytes and, behind it where the options ask for it, the journal of the rounds in which
+-- their packets are counted. The report is told by the bytes alone: no worker has a part in it
+pub record IsRunText (o : Options) (bytes text : List ℕ) : Type 0 where
+  pub report : List ℕ
+  pub report_is : IsReportText o bytes report
+  pub journal : Journal
+  pub journal_is : IsRoundsJournal (packets_of o.amount report_is.frames) o journal
+  pub text_is : text ≡ report ++ asked_text o.journal journal
 
--- all bytes were given, and the sink took a front of their report and not all
+-- all bytes were given, and the sink took the text of their run
+abbrev pub Reported : Options → Option (List ℕ) → Option (List ℕ) → List ℕ → List ℕ → Type 0
+Reported o before after given rest = (rest ≡ []) × (text : List ℕ) × IsRunText o given text × (after ≡ grown before text)
+
+-- all bytes were given, and the sink took a front of that text and not all
 abbrev pub CutShort : Options → Option (List ℕ) → Option (List ℕ) → List ℕ → List ℕ → Type 0
-CutShort o before after given rest = (rest ≡ []) × (text : List ℕ) × IsReportText o given text × TookFront before after text
+CutShort o before after given rest = (rest ≡ []) × (text : List ℕ) × IsRunText o given text × TookFront before after text
 
 -- the bytes given hold no refusal
 abbrev pub IsAccepted : List ℕ → List ℕ → Type 0

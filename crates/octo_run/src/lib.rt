@@ -1,10 +1,10 @@
-//! A run of octo: from words and the bytes of a capture to a report, or to one line that says why
-//! there is none.
+//! A run of octo: from words and the bytes of a capture to a report and a journal, or to one line
+//! that says why there is none.
 #![tactic(auto)]
 
 mod faults;
 mod lines;
-mod report;
+mod results;
 mod run;
 
 pub use capture_load::{Capture, GenSource, LoadStop, load_capture};

@@ -12,16 +12,18 @@ ghost use Rattle.words.specs.declared.command.Command.{Command};
 
 use crate::faults::Fault;
 use crate::lines::tell;
-use crate::report::report;
+use crate::results::{results_of, write_results};
 use capture_load::{GenSource, LoadStop, load_capture};
 use flow_base::{Sink, Source, Status};
 use hash_rows::Options;
-use octo_text::write_report;
 use std::alloc::Global;
+use std::thread::Threads;
 use words::{Command, WordStop, read_words};
 
-/// Reads a capture, and writes its report. Where there is none, one line on `err` says why.
-pub fn octo_rounds<S: Source, T: Sink, E: Sink>(
+/// Reads a capture, counts it in rounds, and writes its report and, where it is asked for, its
+/// journal. Where there is none, one line on `err` says why.
+pub fn octo_rounds<R: Threads + Sync, S: Source, T: Sink, E: Sink>(
+    rt: &R,
     alloc: Global,
     options: &Options,
     source: &mut S,
@@ -46,14 +48,15 @@ pub fn octo_rounds<S: Source, T: Sink, E: Sink>(
     ensures front { (given : List ℕ) × (S.left source.old ≡ behind given (S.left source.new)) }
     ensures others { (result ≢ Status.Usage) × (result ≢ Status.Differs) }
 {
-    match attempt(alloc, options, source, out) {
+    match attempt(rt, alloc, options, source, out) {
         Ok(()) => Status::Done,
         Err(fault) => tell(err, fault),
     }
 }
 
 // The same without the line.
-fn attempt<S: Source, T: Sink>(
+fn attempt<R: Threads + Sync, S: Source, T: Sink>(
+    rt: &R,
     alloc: Global,
     options: &Options,
     source: &mut S,
@@ -78,9 +81,9 @@ fn attempt<S: Source, T: Sink>(
         Err(LoadStop::Bad(bad)) => return Err(Fault::Bad(bad)),
         Err(LoadStop::NoMemory) => return Err(Fault::NoMemory),
     };
-    match report(alloc, &capture, options) {
+    match results_of(rt, alloc, &capture, options) {
         Err(_) => Err(Fault::NoMemory),
-        Ok(report) => match write_report(out, &report) {
+        Ok(results) => match write_results(out, options, &results) {
             Err(_) => Err(Fault::WriteFault),
             Ok(()) => Ok(()),
         },
@@ -89,7 +92,8 @@ fn attempt<S: Source, T: Sink>(
 
 /// Does all that the program does: `words` are those after the program's name. With `load` the
 /// bytes are generated, and nothing of the source is read.
-pub fn octo<S: Source, T: Sink, E: Sink>(
+pub fn octo<R: Threads + Sync, S: Source, T: Sink, E: Sink>(
+    rt: &R,
     alloc: Global,
     words: &[String],
     source: &mut S,
@@ -123,7 +127,7 @@ pub fn octo<S: Source, T: Sink, E: Sink>(
     match read_words(alloc, words) {
         Err(WordStop::Usage) => tell(err, Fault::Usage),
         Err(WordStop::NoMemory) => tell(err, Fault::NoMemory),
-        Ok(Command::Run(options)) => octo_rounds(alloc, &options, source, out, err),
+        Ok(Command::Run(options)) => octo_rounds(rt, alloc, &options, source, out, err),
         Ok(
             Command::Load {
                 records,
@@ -132,7 +136,7 @@ pub fn octo<S: Source, T: Sink, E: Sink>(
             },
         ) => {
             let mut generated = GenSource::new(records, start);
-            octo_rounds(alloc, &options, &mut generated, out, err)
+            octo_rounds(rt, alloc, &options, &mut generated, out, err)
         }
     }
 }

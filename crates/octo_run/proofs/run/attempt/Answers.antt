@@ -1,10 +1,11 @@
 use Rattle.std.proofs.Common.{◌≡◌, ◌∙◌, sym, ap}
-use Rattle.std.specs.Prelude.{Result, Ok, Err}
+use Rattle.std.specs.Prelude.{Result, Err}
 use Rattle.pcap_read.specs.declared.bad.Bad.{Bad}
 use Rattle.capture_load.specs.declared.capture.Capture.{Capture}
 use Rattle.capture_load.specs.declared.capture.LoadStop.{LoadStop}
 use Rattle.capture_load.specs.declared.capture.LoadStop.TheVariants.{Bad as BadStop}
 use Rattle.octo_run.proofs.Statuses.{same_bad}
+use Rattle.octo_run.proofs.Texts.{run_text}
 use Rattle.octo_run.proofs.run.attempt.Goals as goal
 
 pub returns-in-Err-ReadFault-clause-unrefused : goal.returns-in-Err-ReadFault-clause-unrefused
@@ -16,8 +17,18 @@ returns-in-Err-Bad-clause-bad g c = λ bad is given rest told left.
     let same : c.in-Err-Bad.bad ≡ bad = sym c.in-Err-Bad.bad-is ∙ same_bad _ bad is in
     c.in-Err-Bad.ensures.bad bad (ap f (c.in-Err-Bad.field-0-is ∙ ap (λ (b : Bad). BadStop b) same)) given rest told left
 
-pub returns-in-Err-write_report-clause-accepted_cut : goal.returns-in-Err-write_report-clause-accepted_cut
-returns-in-Err-write_report-clause-accepted_cut g c = λ is given rest told left bad. c.in-Ok.ensures.fine bad given rest told left
+pub returns-in-Err-write_results-clause-accepted_cut : goal.returns-in-Err-write_results-clause-accepted_cut
+returns-in-Err-write_results-clause-accepted_cut g c = λ is given rest told left bad. c.in-Ok.ensures.fine bad given rest told left
 
 pub returns-clause-accepted : goal.returns-clause-accepted
 returns-clause-accepted g c = λ given rest told left bad. c.in-Ok.ensures.fine bad given rest told left
+
+pub returns-clause-done : goal.returns-clause-done
+returns-clause-done g c = λ given rest told left.
+    let loaded = c.in-Ok.ensures.whole given rest told left in
+    (loaded.0, _, run_text c.args.options.now given c.in-Ok.capture c.in-Ok-results_of.results loaded.1 c.in-Ok-results_of.ensures.results, c.in-Ok-write_results.ensures.writes.ok)
+
+pub returns-in-Err-write_results-clause-cut : goal.returns-in-Err-write_results-clause-cut
+returns-in-Err-write_results-clause-cut g c = λ is given rest told left.
+    let loaded = c.in-Ok.ensures.whole given rest told left in
+    (loaded.0, _, run_text c.args.options.now given c.in-Ok.capture c.in-Ok-results_of.results loaded.1 c.in-Ok-results_of.ensures.results, c.in-Err-write_results.ensures.writes.err)

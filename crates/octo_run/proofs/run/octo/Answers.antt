@@ -1,4 +1,4 @@
-use Rattle.std.proofs.Common.{◌≡◌, ◌∙◌, sym, subst}
+use Rattle.std.proofs.Common.{◌∙◌, sym, subst}
 use Rattle.words.specs.Options.{options_in}
 use Rattle.words.specs.declared.command.Command.{Command}
 use Rattle.capture_load.specs.Loads.{HoldsRefusal}

@@ -1,0 +1,106 @@
+ghost use Rattle.std.specs.Prelude.{◌≡◌, ◌≤◌, length, IfOk};
+ghost use Rattle.flow_base.specs.Causes.{HasCause};
+ghost use Rattle.flow_base.specs.Writing.{Writes};
+ghost use Rattle.hash_rows.specs.Lawful.{IsLawful};
+ghost use Rattle.octo_run.specs.Results.{HasResults, IsComplete, results_text};
+
+use capture_load::Capture;
+use count_min::CountMin;
+use count_sketch::CountSketch;
+use flow_base::{Failed, NoMemory, Sink};
+use hash_rows::{Answers, BitRows, Counts, Keys, Kind, Options, Sketch};
+use loglog_regs::LogLog;
+use octo_engine::run_rounds;
+use octo_text::{Report, write_journal_in, write_report};
+use reports::report_of;
+use std::alloc::Global;
+use std::thread::Threads;
+
+/// What a run comes to: its report, and of what was settled the lists that its journal tells.
+#[derive(Drop)]
+pub struct Results {
+    pub report: Report,
+    pub refused: BitRows,
+    pub pushes: Counts,
+    pub answers: Answers,
+    pub live: Keys,
+    pub missed: u64,
+}
+
+/// Counts the packets of a capture in rounds.
+pub fn results_of<R: Threads + Sync>(
+    rt: &R,
+    alloc: Global,
+    capture: &Capture,
+    options: &Options,
+) -> Result<Results, NoMemory>
+    requires options { IsLawful options.now }
+    requires packets { length capture.now.packets.items ≤ 16777216 }
+    ensures results { IfOk result (HasResults capture.now options.now) }
+    ensures complete { IfOk result (IsComplete options.now) }
+{
+    match options.sketch {
+        Sketch::CountMin => results_by::<CountMin, R>(rt, alloc, capture, options),
+        Sketch::CountSketch => results_by::<CountSketch, R>(rt, alloc, capture, options),
+        Sketch::LogLog => results_by::<LogLog, R>(rt, alloc, capture, options),
+    }
+}
+
+fn results_by<K: Kind, R: Threads + Sync>(
+    rt: &R,
+    alloc: Global,
+    capture: &Capture,
+    options: &Options,
+) -> Result<Results, NoMemory>
+    requires options { IsLawful options.now }
+    requires sketch { options.now.sketch ≡ K.sketch }
+    requires packets { length capture.now.packets.items ≤ 16777216 }
+    ensures results { IfOk result (HasResults capture.now options.now) }
+    ensures complete { IfOk result (IsComplete options.now) }
+{
+    let packets = capture.packets.as_slice();
+    let settled = run_rounds::<K, R>(rt, alloc, packets, options)?;
+    let report = report_of(
+        alloc,
+        packets,
+        capture.records,
+        capture.skipped,
+        capture.cut,
+        options,
+        &settled.table,
+    )?;
+    Ok(Results {
+        report,
+        refused: settled.refused,
+        pushes: settled.pushes,
+        answers: settled.answers,
+        live: settled.live,
+        missed: settled.missed,
+    })
+}
+
+/// Writes the report and, where the options ask for it, the journal behind it.
+#[tactic(auto, unfolding(crate::specs::Results::results_text))]
+pub fn write_results<T: Sink>(
+    out: &mut T,
+    options: &Options,
+    results: &Results,
+) -> Result<(), Failed>
+    requires { IsComplete options.now results.now }
+    ensures writes { Writes (T.holds out.old) (T.holds out.new) (results_text options.now results.now) result }
+    ensures cause { HasCause (T.faults out.old) (T.faults out.new) result }
+{
+    write_report(out, &results.report)?;
+    if !options.journal {
+        return Ok(());
+    }
+    write_journal_in(
+        out,
+        options,
+        &results.refused,
+        &results.pushes,
+        &results.answers,
+        &results.live,
+        results.missed,
+    )
+}
