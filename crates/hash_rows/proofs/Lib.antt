@@ -8,3 +8,5 @@ pub mod RankLaws
 pub mod RowLists
 pub mod SumLaws
 pub mod Values
+pub mod WordCounts
+pub mod Words

@@ -54,6 +54,20 @@ fn sets_one_bit_of_three(rt: HostRuntime) -> Result<(), Fail> {
 }
 
 #[test]
+fn sets_bits_on_both_sides_of_a_border(rt: HostRuntime) -> Result<(), Fail> {
+    let mut bits = Bits::new(rt.alloc(), 130)?;
+    bits.set(0);
+    bits.set(63);
+    bits.set(64);
+    bits.set(127);
+    for place in 0..bits.len() {
+        assert_eq!(rt; bits.get(place), matches!(place, 0 | 63 | 64 | 127));
+    }
+    assert_eq!(rt; (bits.len(), bits.count()), (130, 4));
+    Ok(())
+}
+
+#[test]
 fn begins_an_answer(rt: HostRuntime) -> Result<(), Fail> {
     let answer = Answer::new(rt.alloc(), 1, 2, 3, 4)?;
     assert_eq!(rt; (answer.reader, answer.number, answer.folded), (1, 2, 0));

@@ -1,5 +1,6 @@
-use Rattle.std.proofs.Common.{◌≡◌, ◌≤◌, take, count_by}
+use Rattle.std.proofs.Common.{◌≡◌, ◌*◌}
+use Rattle.hash_rows.proofs.WordCounts.{set_before}
 use Rattle.hash_rows.proofs.bits.set_in.Given as goal
 
-abbrev pub invariant-loop-mark : goal.invariant-loop-mark
-invariant-loop-mark l = (l.count ≡ count_by (λ mark. mark) (take l.mark-index l.marks)) × (l.count ≤ l.mark-index)
+abbrev pub invariant-loop-word : goal.invariant-loop-word
+invariant-loop-word l = l.count ≡ set_before l.words (l.word-index * 64)
