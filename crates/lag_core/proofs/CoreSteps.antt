@@ -23,7 +23,7 @@ use Rattle.lag_core.specs.Lanes.{Queue}
 use Rattle.lag_core.specs.Sights.{IsSightOf, with_message}
 use Rattle.lag_core.specs.Workers.{terms_of, IsWorkerAt}
 use Rattle.lag_core.specs.Lags.{Core, IsCoreAt, Steps, with_note, workers_of}
-use Rattle.lag_core.proofs.Folding.{cells_more, front_more, upto_more}
+use Rattle.push_history.proofs.MoreMessages.{cells_more, front_more, upto_more}
 use Rattle.lag_core.proofs.Heavies.{heavy_more, note_leaves, Leaves}
 use Rattle.push_history.proofs.Lists.{filter_push_no, filter_push_yes}
 use Rattle.lag_core.proofs.Lists.{slot_set}

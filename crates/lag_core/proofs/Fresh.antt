@@ -19,7 +19,7 @@ use Rattle.lag_core.specs.Lanes.{Queue, fresh_lane}
 use Rattle.lag_core.specs.Sights.{Sight, IsSightOf}
 use Rattle.lag_core.specs.Workers.{IsWorkerAt, IsFreshSketch, terms_of}
 use Rattle.lag_core.specs.Lags.{Core, IsCoreAt, workers_of}
-use Rattle.lag_core.proofs.Folding.{cells_none, front_none, upto_none}
+use Rattle.push_history.proofs.MoreMessages.{cells_none, front_none, upto_none}
 use Rattle.lag_core.proofs.Heavies.{heavy_none}
 use Rattle.lag_core.proofs.Lists.{all_slot}
 use Rattle.lag_core.proofs.Sizes.{some_at}

@@ -1,12 +1,12 @@
 -- How long the lists of a core are.
 use Rattle.std.proofs.Common.{◌≡◌, ◌<◌, ◌+◌, ◌^◌, ℕ, ℤ, true, List, length, take, map, get_or, set, slice_get, Some, refl, sym, ◌∙◌, ap, subst, arith, [], ◌∷◌, zero, suc}
 use Rattle.std.specs.Prelude.{All}
+use Rattle.std.specs.Option.{option_map}
 use Rattle.std.specs.List.{AllZip}
 use Rattle.std.proofs.Common.{◌++◌}
-use Rattle.std.proofs.lemmas.List.{take_more}
 use Rattle.std.proofs.lemmas.List.FromFn.{length-map-range_with_len, get_or-map-range_with_len}
-use Rattle.std.proofs.lemmas.List.{length-take}
-use Rattle.std.proofs.lemmas.Option.{slice_get-get_or}
+use Rattle.std.proofs.lemmas.List.{length-map, length-take, map-set, take_more}
+use Rattle.std.proofs.lemmas.Option.{slice_get-get_or, slice_get-map}
 use Rattle.hash_rows.specs.declared.shape.Push.{Push}
 use Rattle.hash_rows.specs.declared.shape.Shape.{Shape}
 use Rattle.hash_rows.specs.Rules.{Rules, AreLaws, AreValues}
@@ -16,6 +16,7 @@ use Rattle.push_history.specs.LagRun.{State, worker_in}
 use Rattle.push_history.specs.Shown.{told_cells}
 use Rattle.push_history.specs.Told.{told_of}
 use Rattle.push_history.proofs.Joins.{told_value}
+use Rattle.push_history.proofs.MoreMessages.{front_at}
 use Rattle.push_rule.specs.Stands.{Sketch}
 use Rattle.lag_core.specs.Lanes.{Queue}
 use Rattle.lag_core.specs.Sights.{Sight, IsSightOf}
@@ -44,21 +45,12 @@ cells_values r laws shape workers x messages h amounts = subst (λ (l : List ℤ
     subst (λ (z : ℤ). r.is_value z ≡ true) (sym (get_or-map-range_with_len (λ cell. told_of r cell messages) 0 (size_of shape) k k d below (omega arith)))
     (told_value r laws k messages amounts))
 
--- so many messages of a worker were folded
-pub front_at : (workers : ℕ) (messages : List Push) (w : ℕ) → w < workers → get_or (front_of workers messages) w 0 ≡ length (messages_of w messages)
-unfolding front_of
-front_at workers messages w below = get_or-map-range_with_len (λ k. length (messages_of k messages)) 0 workers w w 0 below (omega arith)
-
 -- a list of images, with one changed
 pub map_set : {A B : Type 0} (f : A → B) (xs : List A) (i : ℕ) (x : A) → map f (set xs i x) ≡ set (map f xs) i (f x)
-map_set f [] i x = refl
-map_set f (y ∷ ys) zero x = refl
-map_set f (y ∷ ys) (suc i) x = ap (λ l. f y ∷ l) (map_set f ys i x)
+map_set f xs i x = map-set f xs i x
 
 pub map_at : {A B : Type 0} (f : A → B) (xs : List A) (i : ℕ) (x : A) → slice_get xs i ≡ Some x → slice_get (map f xs) i ≡ Some (f x)
-map_at f [] i x at = cc
-map_at f (y ∷ ys) zero x at = let e : y ≡ x = cc in ap (λ z. Some (f z)) e
-map_at f (y ∷ ys) (suc i) x at = map_at f ys i x at
+map_at f xs i x at = slice_get-map f xs i ∙ ap (option_map f) at
 
 module _ {H : Type 0} (stands : H → ℤ → ℤ → Type 0) (r : Rules) (v : Core H) (s : State) (h : IsCoreAt stands r v s) where
   -- a front that a reader has seen is as long as that which is shown
@@ -79,8 +71,7 @@ pub read_at : {A : Type 0} (xs : List A) (i : ℕ) (x : A) → i < length xs →
 read_at xs i x below is = slice_get-get_or xs i x below ∙ ap Some (sym is)
 
 pub map_length : {A B : Type 0} (f : A → B) (xs : List A) → length (map f xs) ≡ length xs
-map_length f [] = refl
-map_length f (x ∷ xs) = ap suc (map_length f xs)
+map_length f xs = length-map xs f
 
 -- something stands at each place below the length
 pub some_at : {A : Type 0} (xs : List A) (i : ℕ) → i < length xs → (x : A) × (slice_get xs i ≡ Some x)
@@ -114,12 +105,6 @@ zip_at R [] (b ∷ bs) i x y h at_x at_y = absurd h
 zip_at R (a ∷ rest) [] i x y h at_x at_y = absurd h
 zip_at R (a ∷ rest) (b ∷ bs) zero x y h at_x at_y = let e : a ≡ x = cc in let f : b ≡ y = cc in subst (λ z. R z y) e (subst (λ z. R a z) f h.0)
 zip_at R (a ∷ rest) (b ∷ bs) (suc i) x y h at_x at_y = zip_at R rest bs i x y h.1 at_x at_y
-
-pub zip_length : {A B : Type 0} (R : A → B → Type 0) (xs : List A) (ys : List B) → AllZip R xs ys → length ys ≡ length xs
-zip_length R [] [] h = refl
-zip_length R [] (b ∷ bs) h = absurd h
-zip_length R (a ∷ rest) [] h = absurd h
-zip_length R (a ∷ rest) (b ∷ bs) h = ap suc (zip_length R rest bs h.1)
 
 -- an image that stands at a place is that of the item there
 pub map_back : {A B : Type 0} (f : A → B) (xs : List A) (i : ℕ) (y : B) → slice_get (map f xs) i ≡ Some y → (x : A) × (slice_get xs i ≡ Some x) × (f x ≡ y)

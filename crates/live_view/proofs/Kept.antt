@@ -1,5 +1,5 @@
 -- The state after some messages, one message more at a time.
-use Rattle.std.proofs.Common.{◌≡◌, ℕ, ◌+◌, ◌<◌, ◌≤◌, ◌&&◌, Bool, true, false, cond, List, [], ◌∷◌, ◌++◌, length, fold, refl, sym, ap, ◌∙◌, arith, subst, append_assoc, length-append}
+use Rattle.std.proofs.Common.{◌≡◌, ℕ, ◌+◌, ◌<◌, ◌≤◌, ◌&&◌, ◌==◌, Bool, true, false, cond, List, [], ◌∷◌, ◌++◌, length, get_or, set, fold, refl, sym, ap, ◌∙◌, arith, subst, append_assoc, length-append}
 use Rattle.std.specs.Prelude.{nat_lt}
 use Rattle.std.proofs.lemmas.List.{append-nil}
 use Rattle.std.proofs.lemmas.List.Elements.{All-head, All-tail}
@@ -15,10 +15,11 @@ use Rattle.push_history.specs.Front.{front_of, uptos_of}
 use Rattle.push_history.specs.LiveHeavy.{notes_of}
 use Rattle.push_history.specs.Shown.{told_cells}
 use Rattle.live_view.specs.declared.layout.Layout.{Layout}
-use Rattle.live_view.specs.Fold.{Fold, most, fits, added, absorbed, fresh_state, Fit, layout_of, key_noted}
+use Rattle.live_view.specs.Fold.{Fold, most, fits, added, absorbed, fresh_state, Fit, layout_of, key_noted, front_raised}
 use Rattle.live_view.specs.Shows.{heavy_after, all_noted}
 use Rattle.live_view.proofs.Layouts.{added_layout, fresh_layout}
-use Rattle.live_view.proofs.Shown.{cells_none, cells_more, front_none, front_more, upto_none, upto_more}
+use Rattle.live_view.proofs.Lists.{filter_length}
+use Rattle.push_history.proofs.MoreMessages.{cells_none, cells_more, front_at, front_none, front_more, upto_none, upto_more}
 use Rattle.push_history.proofs.Notes.{notes_push}
 
 -- what is kept of some messages
@@ -37,6 +38,14 @@ both false b h = absurd (cc h)
 
 below : (a b : ℕ) → nat_lt a b ≡ true → a < b
 below a b h = grind (arith, nat_tests)
+
+-- a count of 64 bits has room for one message more
+front_raised_is : (workers : ℕ) (messages : List Push) (m : Push) (front : List ℕ) → front ≡ front_of workers messages → m.worker < workers → length messages < most
+    → front_raised front m.worker ≡ front_of workers (messages ++ m ∷ [])
+front_raised_is workers messages m front is inside short =
+    let at = ap (λ l. get_or l m.worker 0) is ∙ front_at workers messages m.worker inside in
+    let few = filter_length (λ (x : Push). x.worker == m.worker) messages in
+    ap (set front m.worker) (omega (arith, at, few, short)) ∙ front_more workers messages m front is inside
 
 -- the heavy keys
 
@@ -88,7 +97,7 @@ module _ (r : Rules) (l : Layout) where
       record {
         layout = added_layout r s m ∙ h.layout;
         cells = cells;
-        front = front_more l.workers messages m s.front h.front worker short;
+        front = front_raised_is l.workers messages m s.front h.front worker short;
         upto = upto_more l.workers messages m s.upto h.upto worker;
         folded = omega (arith, h.folded, short, length-append messages (m ∷ []));
         heavy = heavy_more r l messages m s.heavy (put_in r.join s.table m.cell m.amount) h.heavy shape cells r.keyed refl;

@@ -1,6 +1,5 @@
 mod Lists
 mod Layouts
-mod Shown
 mod Kept
 pub mod Live
 mod Copied

@@ -1,5 +1,6 @@
 pub mod Lists
 pub mod Joins
+pub mod MoreMessages
 pub mod Growing
 pub mod Telling
 pub mod Parts

@@ -1,10 +1,12 @@
--- Filters, and lists that grow at their end.
-use Rattle.std.proofs.Common.{zero, suc, take, ◌||◌, ◌≡◌, ◌<◌, ◌≤◌, ℕ, ◌+◌, List, [], ◌∷◌, ◌++◌, length, get_or, Bool, true, false, refl, sym, ap, ◌∙◌, arith, ◌⊎◌, inl, inr}
+-- Filters, lists that grow at their end, and lists made from a function.
+use Rattle.std.proofs.Common.{zero, suc, take, ◌||◌, ◌≡◌, ◌≢◌, ◌<◌, ◌≤◌, ◌==◌, ℕ, ◌+◌, List, [], ◌∷◌, ◌++◌, length, get_or, set, Bool, true, false, refl, sym, ap, ◌∙◌, subst, arith, ◌⊎◌, inl, inr}
 use Rattle.std.specs.Prelude.{filter, map, All, if◌then◌else◌}
-use Rattle.std.specs.List.{list_any}
+use Rattle.std.specs.List.{list_any, range_with_len}
 use Rattle.std.specs.List.Sorted.{IsStrictlyIncreasing}
-use Rattle.std.proofs.lemmas.List.{map-append, append-nil, get_or_append_left, get_or_push, length_push}
+use Rattle.std.proofs.lemmas.Bool.Decides.{nat_tests}
+use Rattle.std.proofs.lemmas.List.{map-append, append-nil, get_or_append_left, get_or_push, length_push, length-set, get_or-set_same, get_or-set_other}
 use Rattle.std.proofs.lemmas.List.Elements.{All-head, All-tail, filter-append}
+use Rattle.std.proofs.lemmas.List.FromFn.{length-map-range_with_len, get_or-map-range_with_len, fill_by_all}
 use Rattle.std.proofs.Math.Nat.{eq-or-lt_of_le}
 
 or_false : (a b : Bool) → (a || b) ≡ false → (a ≡ false) × (b ≡ false)
@@ -87,3 +89,19 @@ some_passes p (x ∷ xs) some = some_by p x xs (p x) refl some (λ later. some_p
         → (k : ℕ) × (k < length (x ∷ xs)) × ((d : X) → p (get_or (x ∷ xs) k d) ≡ true)
     some_by p x xs true is some later = (0, omega arith, λ d. is)
     some_by p x xs false is some later = let at = later some in (suc at.0, omega (arith, at.1), λ d. at.2 d)
+
+-- a list made from f, with one item changed, is made from g, where g is f elsewhere
+pub set_made : {A : Type 0} (f g : ℕ → A) (xs : List A) (n i : ℕ) (y d : A) → xs ≡ map f (range_with_len 0 n) → i < n → g i ≡ y
+    → ((k : ℕ) → (i == k) ≡ false → g k ≡ f k) → set xs i y ≡ map g (range_with_len 0 n)
+set_made f g xs n i y d is inside here others =
+    let long : length xs ≡ n = ap length is ∙ length-map-range_with_len f 0 n in
+    fill_by_all g (set xs i y) n d (length-set xs i y ∙ long) (λ k lt. by k lt (i == k) refl)
+  where
+    by : (k : ℕ) → k < n → (b : Bool) → (i == k) ≡ b → get_or (set xs i y) k d ≡ g k
+    by k lt true same =
+        let e : i ≡ k = grind (arith, nat_tests) in
+        let long : length xs ≡ n = ap length is ∙ length-map-range_with_len f 0 n in
+        subst (λ j. get_or (set xs i y) j d ≡ g j) e (get_or-set_same xs i y d (omega (arith, long)) ∙ sym here)
+    by k lt false apart =
+        let e : k ≢ i = grind (arith, nat_tests) in
+        get_or-set_other xs i k y d e ∙ (ap (λ l. get_or l k d) is ∙ (get_or-map-range_with_len f 0 n k k d lt (omega arith) ∙ sym (others k apart)))

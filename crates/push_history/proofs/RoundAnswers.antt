@@ -1,12 +1,12 @@
 -- What readers are answered in rounds: the k-th ask sees the state after round k + 1, or that after the last round.
-use Rattle.std.proofs.Common.{◌≡◌, ◌<◌, ◌≤◌, ℕ, zero, suc, ◌+◌, ◌-◌, ◌==◌, List, [], ◌∷◌, ◌++◌, length, replicate, true, false, nat_lt, refl, sym, ap, ◌∙◌, subst, arith, append_assoc, zero-add, ◌⊎◌, inl, inr}
+use Rattle.std.proofs.Common.{◌≡◌, ◌<◌, ◌≤◌, ℕ, zero, suc, ◌+◌, ◌-◌, ◌==◌, List, [], ◌∷◌, ◌++◌, length, replicate, true, false, nat_lt, refl, sym, ap, ◌∙◌, subst, arith, append_assoc, ◌⊎◌, inl, inr}
 use Rattle.std.specs.Prelude.{fold, if◌then◌else◌, min, count_by, map}
 use Rattle.std.specs.Fn.{iterate}
 use Rattle.std.specs.List.{range_with_len}
 use Rattle.std.proofs.Math.Nat.{eq-or-lt_of_le}
 use Rattle.std.proofs.lemmas.Bool.{cases_lt}
-use Rattle.std.proofs.lemmas.List.{append-nil, map-append, length_push}
-use Rattle.std.proofs.lemmas.List.FromFn.{length-map-range_with_len}
+use Rattle.std.proofs.lemmas.List.{append-nil, length_push}
+use Rattle.std.proofs.lemmas.List.FromFn.{length-map-range_with_len, map-range_with_len_more}
 use Rattle.packet_key.specs.declared.key.FlowKey.{FlowKey}
 use Rattle.hash_rows.specs.declared.options.Options.{Options}
 use Rattle.hash_rows.specs.declared.shape.Shape.{Shape}
@@ -18,7 +18,7 @@ use Rattle.push_history.specs.Rounds.{ask_in_round, ask_at_end, with_round, even
 use Rattle.push_history.specs.RoundStates.{round_state}
 use Rattle.push_history.proofs.RoundSteps.{SameRun, same_then, same_run, ask_run, asks_run, before_asks, ask_in_round_run}
 use Rattle.push_history.proofs.AskLists.{own_ask, quiet_event, quiet_before}
-use Rattle.push_history.proofs.AskParts.{same_answer, answers_more, answers_same, answers_count, other_ask, its_ask, range_more}
+use Rattle.push_history.proofs.AskParts.{same_answer, answers_more, answers_same, answers_count, other_ask, its_ask}
 
 module _ (t : Terms) (o : Options) (shape : Shape) (keys : List FlowKey) (q : ℕ) where
   abbrev answers : List Event → List AnswerParts
@@ -85,7 +85,7 @@ one_new t o shape keys q n =
           let asks : nat_lt n o.asks ≡ true = grind (arith, lt) in
           let last : suc n ≡ n + 1 = omega arith in
           rw (now, ← later, asks) (ap (λ m. map f (range_with_len 0 n) ++ answer_in t shape keys q n (round_state t o m) ∷ []) last
-          ∙ sym (map-append f (range_with_len 0 n) (n ∷ [])) ∙ ap (map f) (sym (range_more 0 n ∙ ap (λ m. range_with_len 0 n ++ m ∷ []) (zero-add n))))
+          ∙ sym (map-range_with_len_more f 0 n n (omega arith)))
       | inr le ↦
           let now : min n o.asks ≡ o.asks = omega (arith, le) in
           let later : min (suc n) o.asks ≡ o.asks = omega (arith, le) in

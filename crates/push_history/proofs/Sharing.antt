@@ -1,12 +1,12 @@
 -- What each worker makes of its share, joined, is what one table makes of all packets.
-use Rattle.std.proofs.Common.{◌≡◌, ◌<◌, ◌≤◌, ℕ, zero, suc, ◌+◌, ◌^◌, ◌==◌, ℤ, List, [], ◌∷◌, ◌++◌, length, get_or, take, Bool, true, false, if◌then◌else◌, refl, sym, ap, ◌∙◌, subst, arith, inl, inr}
+use Rattle.std.proofs.Common.{◌≡◌, ◌<◌, ◌≤◌, ℕ, zero, suc, ◌+◌, ◌*◌, ◌^◌, ◌==◌, ℤ, List, [], ◌∷◌, ◌++◌, length, length-append, get_or, take, Bool, true, false, if◌then◌else◌, refl, sym, ap, ◌∙◌, subst, arith, inl, inr}
 use Rattle.std.specs.Prelude.{filter, map, All}
 use Rattle.std.specs.List.{flat_map, range_with_len}
-use Rattle.std.proofs.Math.Nat.{mod-lt}
+use Rattle.std.proofs.Math.Nat.{mod-lt, mul-suc}
 use Rattle.std.proofs.lemmas.Bool.{cases_lt}
 use Rattle.std.proofs.lemmas.List.{map-append, map-id, take_more, take_all, get_or_past}
 use Rattle.std.proofs.lemmas.List.Elements.{filter-append, All-map}
-use Rattle.std.proofs.lemmas.List.FromFn.{map-range_with_len_more}
+use Rattle.std.proofs.lemmas.List.FromFn.{map-range_with_len_more, length-map-range_with_len}
 use Rattle.std.proofs.lemmas.Grind.{flat_map-append}
 use Rattle.hash_rows.specs.declared.options.Share.{Share}
 use Rattle.hash_rows.specs.declared.options.Share.TheVariants.{Turn, Key}
@@ -101,3 +101,14 @@ sequential_is_wholes r laws sharing workers shape packets cell some small =
     let updates : ℕ → List Update = λ w. updates_of r shape packets (share_of_worker sharing workers packets w) in
     sequential_is r laws sharing workers shape packets cell some small
     ∙ (λ i. joined_of r (map (λ w. sym (whole_all r (updates w) (length (updates w)) cell (omega arith)) i) (range_with_len 0 workers)))
+
+-- one update for each packet of the share and each row
+pub updates_len : (r : Rules) (shape : Shape) (packets : List Packet) (share : List ℕ) → length (updates_of r shape packets share) ≡ shape.rows * length share
+unfolding updates_of updates_at
+updates_len r shape packets [] = omega arith
+updates_len r shape packets (i ∷ is) =
+    let here : length (updates_at r shape packets i) ≡ shape.rows = length-map-range_with_len (update_in_row r shape i (packet_at packets i)) 0 shape.rows in
+    let rest : length (flat_map (updates_at r shape packets) is) ≡ shape.rows * length is = updates_len r shape packets is in
+    let more : shape.rows * suc (length is) ≡ shape.rows * length is + shape.rows = mul-suc shape.rows (length is) in
+    let both : length (updates_at r shape packets i ++ flat_map (updates_at r shape packets) is) ≡ length (updates_at r shape packets i) + length (flat_map (updates_at r shape packets) is) = length-append (updates_at r shape packets i) (flat_map (updates_at r shape packets) is) in
+    omega (arith, here, rest, more, both)

@@ -1,5 +1,5 @@
 -- How many updates and messages there are in a run, and which numbers they hold.
-use Rattle.std.proofs.Common.{◌≡◌, ◌<◌, ◌≤◌, ℕ, zero, suc, ◌+◌, ◌*◌, ◌^◌, ◌==◌, List, [], ◌∷◌, length, get_or, take, Bool, true, false, if◌then◌else◌, refl, sym, ap, ◌∙◌, subst, arith, inl, inr, length-append}
+use Rattle.std.proofs.Common.{◌≡◌, ◌<◌, ◌≤◌, ℕ, zero, suc, ◌+◌, ◌*◌, ◌^◌, ◌==◌, List, [], ◌∷◌, length, get_or, take, Bool, true, false, if◌then◌else◌, refl, sym, ap, ◌∙◌, subst, arith, inl, inr}
 use Rattle.std.specs.Prelude.{All, filter, map, sum_by}
 use Rattle.std.specs.List.{flat_map, range_with_len}
 use Rattle.std.specs.List.Sorted.{IsStrictlyIncreasing}
@@ -8,7 +8,7 @@ use Rattle.std.proofs.lemmas.Bool.{cases_lt}
 use Rattle.std.proofs.lemmas.List.{get_or_past, length-map, length-take, take_all}
 use Rattle.std.proofs.lemmas.List.Concat.{length-flat_map}
 use Rattle.std.proofs.lemmas.List.Elements.{All-append, All-nil, All-map, All-head, All-tail, All-take}
-use Rattle.std.proofs.lemmas.List.FromFn.{get_or-range_with_len, length-range_with_len, length-map-range_with_len}
+use Rattle.std.proofs.lemmas.List.FromFn.{get_or-range_with_len, length-range_with_len}
 use Rattle.std.proofs.lemmas.List.Sums.{sum_by-cons, length-filter, count_by-le-length}
 use Rattle.hash_rows.specs.Lawful.{IsLawful}
 use Rattle.hash_rows.specs.Rules.{Rules, AreLaws, rules_of}
@@ -31,6 +31,7 @@ use Rattle.push_history.specs.LawfulRun.{IsLawfulState, IsLawfulWorker}
 use Rattle.push_history.specs.RoundStates.{round_state}
 use Rattle.push_history.specs.Share.{packet_at, share_of_worker, worker_of, zero_key}
 use Rattle.push_history.specs.Updates.{HoldValues, update_at, update_in_row, updates_at, updates_of}
+use Rattle.push_history.proofs.Sharing.{updates_len}
 use Rattle.push_history.proofs.Growing.{numbers_within}
 use Rattle.push_history.proofs.Lists.{filter_kept}
 use Rattle.push_history.proofs.Telling.{amounts_are_values}
@@ -142,17 +143,6 @@ folded_values packets o lawful values n = λ k d lt. (run_fits packets o n lawfu
 pub folded_fits : (packets : List Packet) (o : Options) (n : ℕ) → IsLawful o → All (λ p. p.amount < 2 ^ 32) packets
     → All (λ m. (m.worker < o.workers) × (m.cell < size_of o.shape) × ((rules_in o).is_value m.amount ≡ true)) (folded_after (terms_of packets o) o n)
 folded_fits packets o n lawful small = run_fits packets o n lawful (small_values (rules_in o) (rules_lawful o.sketch) o.shape packets small)
-
--- one update for each packet of the share and each row
-updates_len : (r : Rules) (shape : Shape) (packets : List Packet) (share : List ℕ) → length (updates_of r shape packets share) ≡ shape.rows * length share
-unfolding updates_of updates_at
-updates_len r shape packets [] = omega arith
-updates_len r shape packets (i ∷ is) =
-    let here : length (updates_at r shape packets i) ≡ shape.rows = length-map-range_with_len (update_in_row r shape i (packet_at packets i)) 0 shape.rows in
-    let rest = updates_len r shape packets is in
-    let next : suc (length is) ≡ length is + 1 = omega arith in
-    let times : shape.rows * suc (length is) ≡ shape.rows * length is + shape.rows = ap (λ (m : ℕ). shape.rows * m) next ∙ omega arith in
-    length-append (updates_at r shape packets i) (flat_map (updates_at r shape packets) is) ∙ omega (arith, here, rest, times)
 
 share_few : (packets : List Packet) (o : Options) (w : ℕ) → length (share_of_worker o.share o.workers packets w) ≤ length packets
 unfolding share_of_worker

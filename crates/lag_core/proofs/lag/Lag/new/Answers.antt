@@ -14,7 +14,8 @@ use Rattle.lag_core.specs.Workers.{IsFreshSketch, terms_of}
 use Rattle.lag_core.proofs.CoreLaws.{conserves_at, lawful_at}
 use Rattle.lag_core.proofs.Fresh.{core_fresh, zeros}
 use Rattle.std.proofs.lemmas.Option.{slice_get_within}
-use Rattle.lag_core.proofs.Sizes.{zip_at, zip_length, map_back, map_length, some_at}
+use Rattle.std.proofs.lemmas.Slice.Zip.{AllZip-long}
+use Rattle.lag_core.proofs.Sizes.{zip_at, map_back, map_length, some_at}
 use Rattle.lag_core.proofs.lag.Lag.new.Goals as goal
 
 pub invariant_of-result : goal.invariant_of-result
@@ -36,15 +37,15 @@ invariant_of-result g c =
     let workers : c.len-workers.result ≡ workers_of V = c.len-workers.ensures ∙ sym (map_length (λ (l : Listed Entry). l.items) rows) in
     let wide : replicate {A = ℕ} c.len-workers.result 0 ≡ replicate (workers_of V) 0 = ap (λ (n : ℕ). replicate {A = ℕ} n 0) workers in
     let fresh = core_fresh g.K.Kind.stands r V c.requires.shape
-    (zip_length _ rows c.in_ok-sketches.sketches.items c.in_ok-sketches.ensures.sketches ∙ sym (map_length (λ (l : Listed Entry). l.items) rows))
-    (zip_length _ rows c.in_ok-sketches.lanes.items c.in_ok-sketches.ensures.lanes ∙ sym (map_length (λ (l : Listed Entry). l.items) rows))
+    (AllZip-long _ rows c.in_ok-sketches.sketches.items c.in_ok-sketches.ensures.sketches ∙ sym (map_length (λ (l : Listed Entry). l.items) rows))
+    (AllZip-long _ rows c.in_ok-sketches.lanes.items c.in_ok-sketches.ensures.lanes ∙ sym (map_length (λ (l : Listed Entry). l.items) rows))
     (λ w row p row_at p_at.
     let back = map_back (λ (l : Listed Entry). l.items) rows w row row_at in
     subst (λ (us : List Entry). IsFreshSketch g.K.Kind.stands r (size_of c.args.shape) c.args.threshold us p) back.2
     (zip_at (λ (l : Listed Entry) (q : Sketch g.row.K-Held.Denot). IsFreshSketch g.K.Kind.stands r (size_of c.args.shape) c.args.threshold l.items q)
     rows c.in_ok-sketches.sketches.items w back.0 p c.in_ok-sketches.ensures.sketches back.1 p_at))
     (λ w q q_at.
-    let below : w < length rows = omega (arith, slice_get_within c.in_ok-sketches.lanes.items w q q_at, zip_length _ rows c.in_ok-sketches.lanes.items c.in_ok-sketches.ensures.lanes) in
+    let below : w < length rows = omega (arith, slice_get_within c.in_ok-sketches.lanes.items w q q_at, AllZip-long _ rows c.in_ok-sketches.lanes.items c.in_ok-sketches.ensures.lanes) in
     let row = some_at rows w below in
     zip_at (λ (l : Listed Entry) (z : Queue). z ≡ fresh_lane c.args.capacity) rows c.in_ok-sketches.lanes.items w row.0 q c.in_ok-sketches.ensures.lanes row.1 q_at)
     (All-map (λ (us : List Entry). All (λ u. u.cell < size_of c.args.shape) us) (λ (l : Listed Entry). l.items) rows c.requires.cells)

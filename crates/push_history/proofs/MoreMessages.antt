@@ -1,5 +1,5 @@
--- One message more, in the state and in what it says.
-use Rattle.std.proofs.Common.{◌≡◌, ℕ, ℤ, pos, suc, ◌+◌, ◌-◌, ◌<◌, ◌==◌, Bool, true, false, cond, List, [], ◌∷◌, ◌++◌, length, map, get_or, set, replicate, fold, filter, refl, sym, ap, ◌∙◌, arith, length-append}
+-- One message more, in what folded messages tell: their cells, their front and their last updates.
+use Rattle.std.proofs.Common.{◌≡◌, ℕ, ℤ, pos, suc, ◌+◌, ◌-◌, ◌<◌, ◌==◌, Bool, true, false, cond, List, [], ◌∷◌, ◌++◌, length, get_or, set, replicate, refl, sym, ap, ◌∙◌, arith, length-append}
 use Rattle.hash_rows.specs.declared.shape.Push.{Push}
 use Rattle.hash_rows.specs.declared.shape.Shape.{Shape}
 use Rattle.hash_rows.specs.Rules.{Rules}
@@ -7,27 +7,17 @@ use Rattle.hash_rows.specs.Shapes.{size_of}
 use Rattle.push_history.specs.Told.{told_of}
 use Rattle.push_history.specs.Shown.{told_cells}
 use Rattle.push_history.specs.Front.{message_at, messages_of, front_of, upto_of, uptos_of}
-use Rattle.std.proofs.lemmas.List.{get_or_push, map-append, length-replicate, get_or-replicate}
+use Rattle.std.proofs.lemmas.Bool.{eq-eqb}
+use Rattle.std.proofs.lemmas.List.{get_or_push, length-replicate, get_or-replicate}
 use Rattle.std.proofs.lemmas.List.FromFn.{fill_by_all, get_or-map-range_with_len}
-use Rattle.std.proofs.lemmas.List.Sums.{fold-append}
 use Rattle.std.proofs.lemmas.Bool.Decides.{nat_tests}
-use Rattle.live_view.specs.Fold.{most, one_more}
-use Rattle.push_history.proofs.Lists.{filter_push_no, filter_push_yes}
-use Rattle.live_view.proofs.Lists.{filter_length, set_made}
+use Rattle.push_history.proofs.Joins.{told_push}
+use Rattle.push_history.proofs.Lists.{filter_push_no, filter_push_yes, set_made}
 
-told_by : (r : Rules) (cell : ℕ) (messages : List Push) (m : Push) (b : Bool) → (m.cell == cell) ≡ b
+-- what is told, by whether the message is of the cell
+pub told_by : (r : Rules) (cell : ℕ) (messages : List Push) (m : Push) (b : Bool) → (m.cell == cell) ≡ b
     → told_of r cell (messages ++ m ∷ []) ≡ cond b (r.join (told_of r cell messages) m.amount) (told_of r cell messages)
-unfolding told_of
-told_by r cell messages m true is =
-    let kept = filter (λ (x : Push). x.cell == cell) messages in
-    let amounts = map (λ (x : Push). x.amount) kept in
-    ap (λ (l : List Push). fold r.join (pos 0) (map (λ (x : Push). x.amount) l)) (filter_push_yes (λ (x : Push). x.cell == cell) messages m is)
-    ∙ (ap (fold r.join (pos 0)) (map-append (λ (x : Push). x.amount) kept (m ∷ [])) ∙ fold-append r.join (pos 0) amounts (m.amount ∷ []))
-told_by r cell messages m false is =
-    ap (λ (l : List Push). fold r.join (pos 0) (map (λ (x : Push). x.amount) l)) (filter_push_no (λ (x : Push). x.cell == cell) messages m is)
-
-same_self : (n : ℕ) → (n == n) ≡ true
-same_self n = grind (arith, nat_tests)
+told_by r cell messages m b is = told_push r cell messages m ∙ ap (λ c. cond c (r.join (told_of r cell messages) m.amount) (told_of r cell messages)) is
 
 -- the cells
 
@@ -44,30 +34,34 @@ cells_more r shape messages m cells is inside =
     let at : get_or cells m.cell (pos 0) ≡ told_of r m.cell messages =
     ap (λ l. get_or l m.cell (pos 0)) is ∙ get_or-map-range_with_len (λ cell. told_of r cell messages) 0 (size_of shape) m.cell m.cell (pos 0) inside (omega arith) in
     set_made (λ cell. told_of r cell messages) (λ cell. told_of r cell (messages ++ m ∷ [])) cells (size_of shape) m.cell _ (pos 0) is inside
-    (told_by r m.cell messages m true (same_self m.cell) ∙ ap (λ v. r.join v m.amount) (sym at))
+    (told_by r m.cell messages m true (eq-eqb m.cell m.cell refl) ∙ ap (λ v. r.join v m.amount) (sym at))
     (λ k apart. told_by r k messages m false apart)
 
 -- the front
 
-count_by_worker : List Push → ℕ → ℕ
+-- what `front_of` says of a worker
+abbrev count_by_worker : List Push → ℕ → ℕ
 count_by_worker messages w = length (messages_of w messages)
 
 pub front_none : (workers : ℕ) → replicate workers 0 ≡ front_of workers []
 unfolding front_of
 front_none workers =
-    fill_by_all (λ w. length (messages_of w [])) (replicate workers 0) workers 0 (length-replicate {A = ℕ} workers 0) (λ k lt. get_or-replicate {A = ℕ} workers k 0 0 lt)
+    fill_by_all (count_by_worker []) (replicate workers 0) workers 0 (length-replicate {A = ℕ} workers 0) (λ k lt. get_or-replicate {A = ℕ} workers k 0 0 lt)
 
-pub front_more : (workers : ℕ) (messages : List Push) (m : Push) (front : List ℕ) → front ≡ front_of workers messages → m.worker < workers → length messages < most
-    → set front m.worker (one_more (get_or front m.worker 0)) ≡ front_of workers (messages ++ m ∷ [])
+-- so many messages of a worker were folded
+pub front_at : (workers : ℕ) (messages : List Push) (w : ℕ) → w < workers → get_or (front_of workers messages) w 0 ≡ length (messages_of w messages)
 unfolding front_of
-front_more workers messages m front is inside short =
-    let at : get_or front m.worker 0 ≡ length (messages_of m.worker messages) =
-    ap (λ l. get_or l m.worker 0) is ∙ get_or-map-range_with_len (λ w. length (messages_of w messages)) 0 workers m.worker m.worker 0 inside (omega arith) in
-    let few = filter_length (λ (x : Push). x.worker == m.worker) messages in
+front_at workers messages w below = get_or-map-range_with_len (count_by_worker messages) 0 workers w w 0 below (omega arith)
+
+pub front_more : (workers : ℕ) (messages : List Push) (m : Push) (front : List ℕ) → front ≡ front_of workers messages → m.worker < workers
+    → set front m.worker (get_or front m.worker 0 + 1) ≡ front_of workers (messages ++ m ∷ [])
+unfolding front_of
+front_more workers messages m front is inside =
+    let at : get_or front m.worker 0 ≡ length (messages_of m.worker messages) = ap (λ l. get_or l m.worker 0) is ∙ front_at workers messages m.worker inside in
     let more : length (messages_of m.worker (messages ++ m ∷ [])) ≡ length (messages_of m.worker messages) + 1 =
-    ap length (filter_push_yes (λ (x : Push). x.worker == m.worker) messages m (same_self m.worker)) ∙ length-append (messages_of m.worker messages) (m ∷ []) in
-    set_made (λ w. length (messages_of w messages)) (λ w. length (messages_of w (messages ++ m ∷ []))) front workers m.worker _ 0 is inside
-    (omega (arith, more, at, few, short))
+    ap length (filter_push_yes (λ (x : Push). x.worker == m.worker) messages m (eq-eqb m.worker m.worker refl)) ∙ length-append (messages_of m.worker messages) (m ∷ []) in
+    set_made (count_by_worker messages) (count_by_worker (messages ++ m ∷ [])) front workers m.worker _ 0 is inside
+    (omega (arith, more, at))
     (λ k apart. ap length (filter_push_no (λ (x : Push). x.worker == k) messages m apart))
 
 -- the last updates
@@ -96,5 +90,5 @@ pub upto_more : (workers : ℕ) (messages : List Push) (m : Push) (upto : List �
 unfolding uptos_of
 upto_more workers messages m upto is inside =
     set_made (last_of messages) (last_of (messages ++ m ∷ [])) upto workers m.worker _ 0 is inside
-    (ap (λ (l : List Push). upto_of l (length l)) (filter_push_yes (λ (x : Push). x.worker == m.worker) messages m (same_self m.worker)) ∙ last_update (messages_of m.worker messages) m)
+    (ap (λ (l : List Push). upto_of l (length l)) (filter_push_yes (λ (x : Push). x.worker == m.worker) messages m (eq-eqb m.worker m.worker refl)) ∙ last_update (messages_of m.worker messages) m)
     (λ k apart. ap (λ (l : List Push). upto_of l (length l)) (filter_push_no (λ (x : Push). x.worker == k) messages m apart))
