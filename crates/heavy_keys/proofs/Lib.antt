@@ -5,3 +5,10 @@ pub mod Members
 pub mod KeyOrder
 pub mod RankLemmas
 pub mod RankOrder
+pub mod InOrder
+pub mod Counting
+pub mod Sharing
+pub mod Parting
+pub mod FoundLemmas
+pub mod PartLemmas
+pub mod HeaviestLemmas

@@ -23,10 +23,10 @@ same_rank a b = int_eq a.0.0 b.0.0 && same_key a.1 b.1
 int_ties : (x y : ℤ) → int_eq x y ≡ is_eq (int_cmp y x)
 int_ties x y = grind arith
 
-ties : (a b : Rank) → same_rank a b ≡ eq_by_cmp rank_order a b
+pub ties : (a b : Rank) → same_rank a b ≡ eq_by_cmp rank_order a b
 ties a b = ap₂ (λ x y. x && y) (int_ties a.0.0 b.0.0) (matches_eq-law a.1 b.1) ∙ tied_then (int_cmp b.0.0 a.0.0) (key_order a.1 b.1)
 
-total : IsTotalOrder rank_order
+pub total : IsTotalOrder rank_order
 total = then_total {R = λ a b. int_cmp b.0.0 a.0.0} {S = λ a b. key_order a.1 b.1} (on_total (λ (r : Rank). r.0.0) (back_total int_cmp_total)) (on_total (λ (r : Rank). r.1) total-law)
 
 alike : IsEquivalence same_rank

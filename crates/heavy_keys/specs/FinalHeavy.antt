@@ -1,5 +1,5 @@
 -- The heavy flows of a whole capture.
-use Rattle.std.specs.Prelude.{◌≡◌, ◌⊎◌, ℤ, ◌≤ℤ◌, ◌<ℤ◌, List, Contains, AllPairs}
+use Rattle.std.specs.Prelude.{◌≡◌, ◌⊎◌, ℕ, ℤ, ◌≤ℤ◌, ◌<ℤ◌, List, Contains, AllPairs, length, take}
 use Rattle.std.specs.declared.cmp.Ordering.{Ordering}
 use Rattle.std.specs.declared.cmp.Ordering.TheVariants.{Less}
 use Rattle.packet_key.specs.declared.key.FlowKey.{FlowKey}
@@ -19,3 +19,10 @@ pub record IsFinalHeavy (estimate_of : FlowKey → ℤ) (least : ℤ) (keys : Li
   pub sorted : AllPairs IsBefore flows
   pub sound : (flow : Flow) → Contains flows flow → Contains keys flow.key × (flow.estimate ≡ estimate_of flow.key) × (least ≤ℤ flow.estimate)
   pub whole : (key : FlowKey) → Contains keys key → least ≤ℤ estimate_of key → Contains flows (record { key = key; estimate = estimate_of key })
+
+-- how many flows are heavy, and the first of them, at most `most`
+pub record AreHeaviest (estimate_of : FlowKey → ℤ) (least : ℤ) (keys : List FlowKey) (most : ℕ) (count : ℕ) (flows : List Flow) : Type 0 where
+  pub all : List Flow
+  pub all_heavy : IsFinalHeavy estimate_of least keys all
+  pub number : count ≡ length all
+  pub first : flows ≡ take most all

@@ -2,9 +2,18 @@
 //! of the whole capture.
 #![tactic(auto)]
 
+mod candidates;
+mod distinct;
+mod firsts;
+mod flow_keys;
+mod heaviest_flows;
 mod heavy;
+mod parts;
 mod ranks;
 mod recent;
+#[cfg(test)]
+mod tests;
 
+pub use heaviest_flows::{HeaviestFlows, heaviest};
 pub use heavy::Heavy;
 pub use ranks::final_heavy;

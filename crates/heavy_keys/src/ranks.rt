@@ -4,6 +4,7 @@ ghost use Rattle.heavy_keys.specs.FinalHeavy.{IsFinalHeavy};
 ghost use Rattle.heavy_keys.specs.Ranks.{AreHeavy, Rank, flow_of, rank_of, rank_order};
 ghost use Rattle.std.specs.List.Sorted.{IsStrictlySortedBy};
 
+use crate::flow_keys::spread;
 use crate::recent::{SLOTS, Slots, seen_lately};
 use flow_base::NoMemory;
 use hash_rows::{Flow, Flows, Kind, Packet, Table};
@@ -12,8 +13,10 @@ use packet_key::FlowKey;
 use std::alloc::Global;
 use std::cmp::Reverse;
 
-// Estimates and their keys, whose order is that of heavy flows.
-type Ranks = Vec<(Reverse<i64>, FlowKey)>;
+/// An estimate and its key, whose order is that of heavy flows.
+pub type Rank = (Reverse<i64>, FlowKey);
+
+type Ranks = Vec<Rank>;
 
 /// The distinct keys of the packets whose estimate is at least `least`, by estimate downwards,
 /// equal ones by key upwards.
@@ -62,7 +65,7 @@ fn note_rank<K: Kind>(
     ensures heavy { OnOk result (AreHeavy (K.rules.estimate table.now.shape table.now.cells) least (map (λ p. p.key) before.now) ranks.old.items
         → AreHeavy (K.rules.estimate table.now.shape table.now.cells) least (map (λ p. p.key) before.now ++ key.now ∷ []) ranks.new.items) }
 {
-    if seen_lately(slots, before, key) {
+    if seen_lately(slots, before, key, spread(key)) {
         return Ok(());
     }
     let estimate = table.estimate(key);

@@ -2,9 +2,9 @@
 use Rattle.std.proofs.Common.{◌≡◌, ◌<◌, ℕ, zero, suc, ◌+◌, ◌==◌, ℤ, pos, List, [], ◌∷◌, ◌++◌, set, replicate, Bool, true, false, if◌then◌else◌, refl, sym, ap, ◌∙◌, subst, arith}
 use Rattle.std.specs.Prelude.{filter, map}
 use Rattle.std.specs.List.{range_with_len}
-use Rattle.std.proofs.lemmas.List.{map-id, append-nil, append_assoc}
+use Rattle.std.proofs.lemmas.List.{append-nil, append_assoc}
 use Rattle.std.proofs.lemmas.List.Sums.{fold_push}
-use Rattle.std.proofs.lemmas.List.FromFn.{map-range_with_len_more, get_or-map-range_with_len}
+use Rattle.std.proofs.lemmas.List.FromFn.{get_or-map-range_with_len}
 use Rattle.std.proofs.lemmas.Grind.{flat_map-append}
 use Rattle.hash_rows.specs.declared.shape.Packet.{Packet}
 use Rattle.hash_rows.specs.declared.shape.Shape.{Shape}
@@ -13,6 +13,7 @@ use Rattle.hash_rows.specs.Sequential.{joined_of, packet_values, cell_values, se
 use Rattle.hash_rows.specs.Shapes.{place_of, size_of}
 use Rattle.hash_rows.specs.Tables.{Figures, value_at, put_in}
 use Rattle.push_history.proofs.Lists.{kept_push}
+use Rattle.push_history.proofs.Sharing.{range_more}
 
 -- what the first rows of a packet give a cell
 abbrev pub row_values : Rules → Shape → Packet → ℕ → ℕ → List ℤ
@@ -45,10 +46,6 @@ reached_all r shape packets packet =
     (λ i. ap (joined_of r) (sym (flat_map-append (packet_values r shape i) packets (packet ∷ [])
     ∙ ap (λ (t : List ℤ). cell_values r shape packets i ++ t) (append-nil (packet_values r shape i packet)))))
     (range_with_len 0 (size_of shape)))
-
-range_more : (n : ℕ) → range_with_len 0 (n + 1) ≡ range_with_len 0 n ++ n ∷ []
-range_more n =
-    sym (map-id (range_with_len 0 (n + 1))) ∙ map-range_with_len_more (λ x. x) 0 n n (omega arith) ∙ ap (λ t. t ++ n ∷ []) (map-id (range_with_len 0 n))
 
 -- one more row
 reached_more : (r : Rules) (shape : Shape) (packets : List Packet) (packet : Packet) (rows cell : ℕ)

@@ -1,5 +1,5 @@
 -- The report of a capture: what was read, and what the table of its packets says of their keys.
-use Rattle.std.specs.Prelude.{◌≡◌, ℕ, ℤ, List, [], length, map, take, Option, Some, None}
+use Rattle.std.specs.Prelude.{◌≡◌, ℕ, ℤ, List, [], length, map, Option, Some, None}
 use Rattle.packet_key.specs.declared.key.FlowKey.{FlowKey}
 use Rattle.hash_rows.specs.declared.options.Options.{Options}
 use Rattle.hash_rows.specs.declared.options.Sketch.{Sketch}
@@ -12,7 +12,7 @@ use Rattle.hash_rows.specs.Rules.{Rules, rules_of}
 use Rattle.hash_rows.specs.Sequential.{sequential_table}
 use Rattle.hash_rows.specs.Sketches.{rows_of}
 use Rattle.hash_rows.specs.Tables.{Figures, used_in}
-use Rattle.heavy_keys.specs.FinalHeavy.{IsFinalHeavy}
+use Rattle.heavy_keys.specs.FinalHeavy.{AreHeaviest}
 use Rattle.push_history.specs.Share.{zero_key}
 use Rattle.octo_text.specs.declared.report.Report.{Report}
 
@@ -29,10 +29,7 @@ pub record Distinct (estimate_of : FlowKey → ℤ) (distinct : Option ℤ) (hea
 -- how many flows are heavy, and the first of them, as many as the options list
 pub record HeavyFlows (estimate_of : FlowKey → ℤ) (options : Options) (packets : List Packet) (distinct : Option ℤ) (heavy : ℕ) (flows : List Flow) : Type 0 where
   pub no_estimate : distinct ≡ None
-  pub all : List Flow
-  pub all_heavy : IsFinalHeavy estimate_of options.least (map (λ p. p.key) packets) all
-  pub number : heavy ≡ length all
-  pub first : flows ≡ take options.heavy all
+  pub heaviest : AreHeaviest estimate_of options.least (map (λ p. p.key) packets) options.heavy heavy flows
 
 -- a LogLog tells the number of keys, the other sketches tell heavy flows
 abbrev pub Finds : Sketch → (FlowKey → ℤ) → Options → List Packet → Option ℤ → ℕ → List Flow → Type 0

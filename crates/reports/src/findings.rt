@@ -1,21 +1,11 @@
-ghost use Rattle.std.specs.Prelude.{◌≡◌, map, take, IfOk};
+ghost use Rattle.std.specs.Prelude.{◌≡◌, map, IfOk};
 ghost use Rattle.reports.specs.ReportOf.{flow_by, Distinct, Finds, HeavyFlows};
 
 use flow_base::NoMemory;
-use hash_rows::{Flow, Flows, Keys, Kind, Options, Packet, Sketch, Table};
-use heavy_keys::final_heavy;
+use hash_rows::{Flow, Flows, Keys, Kind, Options, Packet, Sketch, Table, ZERO_KEY};
+use heavy_keys::heaviest;
 use listed::Listed;
-use packet_key::FlowKey;
 use std::alloc::Global;
-
-/// Estimates of a LogLog depend on no key.
-const ZERO_KEY: FlowKey = FlowKey::V4 {
-    src: 0,
-    dst: 0,
-    sport: 0,
-    dport: 0,
-    proto: 0,
-};
 
 /// What a table says of all keys.
 #[derive(Drop)]
@@ -42,18 +32,6 @@ pub fn estimates<K: Kind>(alloc: Global, keys: &Keys, table: &Table<K>) -> Resul
     Ok(flows)
 }
 
-// The first flows, at most so many.
-fn first_flows(alloc: Global, flows: &Flows, most: u32) -> Result<Flows, NoMemory>
-    ensures { IfOk result (λ front. front.items ≡ take most flows.now.items) }
-{
-    let count = most.min(flows.len());
-    let mut front = Listed::new(alloc, count)?;
-    for flow in &flows.as_slice()[..count as usize] {
-        front.push(*flow);
-    }
-    Ok(front)
-}
-
 // What a LogLog says: how many keys there are.
 fn distinct_keys<K: Kind>(alloc: Global, table: &Table<K>) -> Result<Findings, NoMemory>
     ensures { IfOk result (λ f. Distinct (K.rules.estimate table.now.shape table.now.cells) f.distinct f.heavy f.flows.items) }
@@ -74,11 +52,11 @@ fn heavy_flows<K: Kind>(
 ) -> Result<Findings, NoMemory>
     ensures { IfOk result (λ f. HeavyFlows (K.rules.estimate table.now.shape table.now.cells) options.now packets.now f.distinct f.heavy f.flows.items) }
 {
-    let all = final_heavy(alloc, packets, table, options.least)?;
+    let heaviest = heaviest(alloc, packets, table, options.least, options.heavy)?;
     Ok(Findings {
         distinct: None,
-        heavy: u64::from(all.len()),
-        flows: first_flows(alloc, &all, options.heavy)?,
+        heavy: heaviest.count,
+        flows: heaviest.flows,
     })
 }
 

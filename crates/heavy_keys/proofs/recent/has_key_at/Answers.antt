@@ -5,4 +5,4 @@ use Rattle.heavy_keys.proofs.recent.has_key_at.Goals as goal
 
 pub returns-then-place-packets : goal.returns-then-place-packets
 returns-then-place-packets c = λ same.
-    has_key c.args.packets.now c.args.place (record { key = V4 0 0 0 0 0; amount = 0 }) c.args.key.now c.if-place-packets.true (sym c.eq.ensures ∙ same)
+    has_key c.args.packets.now c.args.place (record { key = V4 0 0 0 0 0; amount = 0 }) c.args.key.now c.if-place-packets.true (sym c.is_same_key.ensures ∙ same)

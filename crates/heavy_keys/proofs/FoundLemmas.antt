@@ -1,0 +1,126 @@
+-- Candidates and the first of their ranks, as packets come.
+use Rattle.std.proofs.Common.{◌≡◌, ℕ, ℤ, ◌<◌, ◌≤◌, ◌+◌, ◌/◌, ◌≤ℤ◌, List, [], ◌∷◌, ◌++◌, length, map, get_or, take, Contains, inl, inr, refl, sym, ◌∙◌, ap, subst, arith, append_assoc}
+use Rattle.std.specs.BTreeSet.{insert_key}
+use Rattle.std.specs.Global.{Vec}
+use Rattle.std.proofs.lemmas.List.{append-nil, map-append, take_all}
+use Rattle.std.proofs.lemmas.List.Elements.{All-push, Contains-append_cases, Contains-append_right, Contains-get_or}
+use Rattle.std.proofs.lemmas.List.Sums.{fold-append}
+use Rattle.packet_key.specs.declared.key.FlowKey.{FlowKey}
+use Rattle.hash_rows.specs.declared.shape.Packet.{Packet}
+use Rattle.heavy_keys.specs.Candidates.{AreFound, AreFoundUpTo, IsCandidate, in_order, key_at, key_of, no_packet, rank_by, ranks_of}
+use Rattle.heavy_keys.specs.Parts.{AreParts}
+use Rattle.heavy_keys.specs.Ranks.{AreHeavy, Rank, rank_of, rank_order}
+use Rattle.heavy_keys.specs.Spread.{spread_of}
+use Rattle.heavy_keys.specs.declared.candidates.Candidate.{Candidate}
+use Rattle.heavy_keys.proofs.InOrder.{take_insert}
+use Rattle.heavy_keys.proofs.Members.{contains_image, contains_split}
+use Rattle.heavy_keys.proofs.RankLemmas.{heavy_low, heavy_none, heavy_ranked, heavy_seen, keys_more}
+
+module _ (estimate_of : FlowKey → ℤ) (least : ℤ) (most : ℕ) (packets : List Packet) where
+  -- before the first packet
+  pub found_none : (lists : List (Vec Candidate)) (firsts : List Rank) → AreParts [] lists → firsts ≡ [] → AreFoundUpTo estimate_of least most packets 0 lists firsts
+  found_none lists firsts none empty = record {
+    others = [];
+    theirs = λ key c. absurd (omega (arith, c.1));
+    found = record {
+      candidates = [];
+      parts = none;
+      heavy = heavy_none estimate_of least [] refl;
+      firsts_are = empty ∙ sym (take_all most [] (omega arith));
+      each = λ k d below. absurd (omega arith);
+    };
+  }
+
+  -- one more packet
+  module _ (at : ℕ) (lists : List (Vec Candidate)) (firsts : List Rank) (below : at < length packets) where
+    -- whose key isn't heavy
+    pub found_low : (keys : List FlowKey) → (least ≤ℤ estimate_of (key_at packets at) → ⊥) → AreFound estimate_of least most packets keys lists firsts
+        → AreFound estimate_of least most packets (keys ++ key_at packets at ∷ []) lists firsts
+    found_low keys low h = record {
+      candidates = h.candidates;
+      parts = h.parts;
+      heavy = heavy_low estimate_of least keys (ranks_of estimate_of packets h.candidates) (key_at packets at) h.heavy low;
+      firsts_are = h.firsts_are;
+      each = h.each;
+    }
+
+    -- that is a candidate
+    pub found_more : (keys : List FlowKey) (estimate : ℤ) (hash : ℕ) (more : List (Vec Candidate)) (next : List Rank) → AreFound estimate_of least most packets keys lists firsts
+        → estimate ≡ estimate_of (key_at packets at) → least ≤ℤ estimate → hash ≡ spread_of (key_at packets at) → ((candidates : List Candidate) → AreParts candidates lists → AreParts (candidates ++ record { spread = hash / 4294967296; place = at } ∷ []) more)
+        → next ≡ take most (insert_key rank_order firsts (rank_of estimate (key_at packets at))) → AreFound estimate_of least most packets (keys ++ key_at packets at ∷ []) more next
+    found_more keys estimate hash more next h its high spreads put offered =
+        let c : Candidate = record { spread = hash / 4294967296; place = at } in
+        let k : FlowKey = key_at packets at in
+        let grown : List Candidate = h.candidates ++ c ∷ [] in
+        let old : List Rank = ranks_of estimate_of packets h.candidates in
+        let ranks : ranks_of estimate_of packets grown ≡ old ++ rank_of estimate k ∷ [] =
+        map-append (λ (x : Candidate). rank_by estimate_of (key_of packets x)) h.candidates (c ∷ []) ∙ ap (λ v. old ++ rank_of v k ∷ []) (sym its) in
+        let whole : in_order (ranks_of estimate_of packets grown) ≡ insert_key rank_order (in_order old) (rank_of estimate k) = ap in_order ranks ∙ fold-append (insert_key rank_order) [] old (rank_of estimate k ∷ []) in
+        record {
+          candidates = grown;
+          parts = put h.candidates h.parts;
+          heavy = heavy_ranked estimate_of least keys old k h.heavy estimate (ranks_of estimate_of packets grown) its high ranks;
+          firsts_are = offered ∙ ap (λ l. take most (insert_key rank_order l (rank_of estimate k))) h.firsts_are ∙ take_insert rank_order most (in_order old) (rank_of estimate k) ∙ ap (take most) (sym whole);
+          each = All-push (IsCandidate packets) h.candidates c h.each (record { place = below; spread = ap (λ n. n / 4294967296) spreads });
+        }
+
+    further : map (λ (p : Packet). p.key) (take (at + 1) packets) ≡ map (λ (p : Packet). p.key) (take at packets) ++ key_at packets at ∷ []
+    further = keys_more packets at no_packet below
+
+    -- whose key one before has
+    pub next_seen : Contains (map (λ (p : Packet). p.key) (take at packets)) (key_at packets at) → AreFoundUpTo estimate_of least most packets at lists firsts
+        → AreFoundUpTo estimate_of least most packets (at + 1) lists firsts
+    next_seen there h =
+        let front : List FlowKey = map (λ (p : Packet). p.key) (take at packets) in
+        record {
+          others = h.others;
+          theirs = h.theirs;
+          found = record {
+            candidates = h.found.candidates;
+            parts = h.found.parts;
+            heavy = subst (λ keys. AreHeavy estimate_of least keys (ranks_of estimate_of packets h.found.candidates)) (append_assoc h.others front (key_at packets at ∷ []) ∙ ap (λ l. h.others ++ l) (sym further))
+                (heavy_seen estimate_of least (h.others ++ front) (ranks_of estimate_of packets h.found.candidates) (key_at packets at) h.found.heavy (Contains-append_right h.others front (key_at packets at) there));
+            firsts_are = h.found.firsts_are;
+            each = h.found.each;
+          };
+        }
+
+    -- that is the next one, or one of the others
+    module _ (more : List (Vec Candidate)) (next : List Rank) (step : (keys : List FlowKey) → AreFound estimate_of least most packets keys lists firsts
+        → AreFound estimate_of least most packets (keys ++ key_at packets at ∷ []) more next) where
+      pub next_found : AreFoundUpTo estimate_of least most packets at lists firsts → AreFoundUpTo estimate_of least most packets (at + 1) more next
+      next_found h =
+          let front : List FlowKey = map (λ (p : Packet). p.key) (take at packets) in
+          record {
+            others = h.others;
+            theirs = h.theirs;
+            found = subst (λ keys. AreFound estimate_of least most packets keys more next) (append_assoc h.others front (key_at packets at ∷ []) ∙ ap (λ l. h.others ++ l) (sym further)) (step (h.others ++ front) h.found);
+          }
+
+      pub other_found : AreFoundUpTo estimate_of least most packets 0 lists firsts → AreFoundUpTo estimate_of least most packets 0 more next
+      other_found h = record {
+        others = h.others ++ key_at packets at ∷ [];
+        theirs = λ key c. elim (contains_split h.others (key_at packets at) key c) [
+          | inl e ↦ subst (Contains (map (λ (p : Packet). p.key) packets)) e (contains_image (λ (p : Packet). p.key) packets (get_or packets at no_packet) (Contains-get_or packets at no_packet below))
+          | inr d ↦ h.theirs key d
+        ];
+        found = subst (λ keys. AreFound estimate_of least most packets keys more next) (ap (λ l. l ++ key_at packets at ∷ []) (append-nil h.others) ∙ sym (append-nil (h.others ++ key_at packets at ∷ []))) (step (h.others ++ []) h.found);
+      }
+
+  -- when all packets have come
+  pub found_all : (count : ℕ) (lists : List (Vec Candidate)) (firsts : List Rank) → length packets ≤ count → AreFoundUpTo estimate_of least most packets count lists firsts
+      → AreFound estimate_of least most packets (map (λ p. p.key) packets) lists firsts
+  found_all count lists firsts whole h =
+      let keys : List FlowKey = map (λ (p : Packet). p.key) packets in
+      let all : map (λ (p : Packet). p.key) (take count packets) ≡ keys = ap (map (λ (p : Packet). p.key)) (take_all count packets whole) in
+      let heavy : AreHeavy estimate_of least (h.others ++ keys) (ranks_of estimate_of packets h.found.candidates) = subst (λ l. AreHeavy estimate_of least (h.others ++ l) (ranks_of estimate_of packets h.found.candidates)) all h.found.heavy in
+      record {
+        candidates = h.found.candidates;
+        parts = h.found.parts;
+        heavy = record {
+          sound = λ rank c. let s = heavy.sound rank c in (elim (Contains-append_cases h.others keys rank.1 s.0) [ inl o ↦ h.theirs rank.1 o | inr k ↦ k ], s.1, s.2);
+          whole = λ key c high. heavy.whole key (Contains-append_right h.others keys key c) high;
+        };
+        firsts_are = h.found.firsts_are;
+        each = h.found.each;
+      }
