@@ -1,5 +1,5 @@
 -- The workers' parts before the first round.
-use Rattle.std.proofs.Common.{◌≡◌, ◌<◌, ◌≤◌, ◌^◌, ℕ, zero, suc, ◌+◌, ◌*◌, ◌==◌, ◌&&◌, List, [], ◌∷◌, ◌++◌, length, take, get_or, Bool, true, nat_lt, if◌then◌else◌, All, refl, sym, ap, ap₂, ◌∙◌, subst, arith, inl, inr}
+use Rattle.std.proofs.Common.{◌≡◌, ◌<◌, ◌≤◌, ◌^◌, ℕ, zero, suc, ◌+◌, ◌*◌, ◌%◌, ◌==◌, ◌&&◌, List, [], ◌∷◌, ◌++◌, length, take, get_or, Bool, true, nat_lt, if◌then◌else◌, All, refl, sym, ap, ap₂, ◌∙◌, subst, arith, inl, inr}
 use Rattle.std.specs.Prelude.{filter, map, slice_index_or}
 use Rattle.std.specs.List.{range_with_len}
 use Rattle.std.proofs.Math.Seq.{get_or-append_seam, take-append_seam}
@@ -16,6 +16,8 @@ use Rattle.push_history.specs.LagRun.{Terms}
 use Rattle.hash_rows.specs.declared.answer.Answer.{Answer}
 use Rattle.std.proofs.lemmas.List.FromFn.{get_or-map-range_with_len, get_or-range_with_len, length-range_with_len, length-map-range_with_len}
 use Rattle.hash_rows.specs.declared.options.Options.{Options}
+use Rattle.hash_rows.specs.declared.options.Share.{Share}
+use Rattle.hash_rows.specs.declared.options.Share.TheVariants.{Turn, Key}
 use Rattle.hash_rows.specs.declared.options.Sketch.{Sketch}
 use Rattle.hash_rows.specs.declared.shape.Packet.{Packet}
 use Rattle.hash_rows.specs.Lawful.{IsLawful}
@@ -38,19 +40,25 @@ alike p q a (suc n) same =
     let rest = alike p q (a + 1) n (λ i from to. same i (omega (arith, from)) (omega (arith, to))) in
     ap₂ (λ b l. if b then a ∷ l else l) (same a (omega arith) (omega arith)) rest
 
--- what a worker owns is its share
-pub share_is : (o : Options) (packets : List Packet) (w : ℕ) (owners : List ℕ) → owners ≡ map (worker_of o.share o.workers packets) (range_with_len 0 (length packets))
+-- what a worker owns by key is its share
+pub share_by_key : (o : Options) (packets : List Packet) (w : ℕ) (owners : List ℕ) → o.share ≡ Key → owners ≡ map (worker_of Key o.workers packets) (range_with_len 0 (length packets))
     → filter (λ i. slice_index_or owners i 0 == w) (range_with_len 0 (length owners)) ≡ share_of_worker o.share o.workers packets w
 unfolding share_of_worker
-share_is o packets w owners is =
-    let f = worker_of o.share o.workers packets in
+share_by_key o packets w owners by is =
+    let f = worker_of Key o.workers packets in
     let n = length packets in
     let len : length owners ≡ n = ap length is ∙ length-map-range_with_len f 0 n in
     ap (λ k. filter (λ i. slice_index_or owners i 0 == w) (range_with_len 0 k)) len
     ∙ alike (λ i. slice_index_or owners i 0 == w) (λ i. f i == w) 0 n
     (λ i from to. ap (λ (l : List ℕ). slice_index_or l i 0 == w) is ∙ ap (λ z. z == w) (get_or-map-range_with_len f 0 n i i 0 (omega (arith, to)) (omega arith)))
+    ∙ ap (λ (s : Share). filter (λ i. worker_of s o.workers packets i == w) (range_with_len 0 n)) (sym by)
 
-pub owned_within : (p : ℕ → Bool) (n : ℕ) → All (λ i. i < n) (filter p (range_with_len 0 n))
+-- what a worker owns in turn is its share
+pub share_in_turn : (o : Options) (packets : List Packet) (w : ℕ) → o.share ≡ Turn → filter (λ i. i % o.workers == w) (range_with_len 0 (length packets)) ≡ share_of_worker o.share o.workers packets w
+unfolding share_of_worker
+share_in_turn o packets w by = ap (λ (s : Share). filter (λ i. worker_of s o.workers packets i == w) (range_with_len 0 (length packets))) (sym by)
+
+owned_within : (p : ℕ → Bool) (n : ℕ) → All (λ i. i < n) (filter p (range_with_len 0 n))
 owned_within p n = All-filter p (λ i. i < n) (range_with_len 0 n) (λ k d lt.
     let len = length-range_with_len 0 n in
     let at = get_or-range_with_len 0 n k d (omega (arith, lt, len)) in
@@ -81,8 +89,17 @@ suits r packets o is = record { rules = sym is; threshold = refl; capacity = ref
 pub rules_are : (r : Rules) (o : Options) (s : Sketch) → r ≡ rules_of s → o.sketch ≡ s → r ≡ rules_in o
 rules_are r o s is same = is ∙ ap rules_of (sym same)
 
-pub owned_few : (p : ℕ → Bool) (n : ℕ) → length (filter p (range_with_len 0 n)) ≤ n
+owned_few : (p : ℕ → Bool) (n : ℕ) → length (filter p (range_with_len 0 n)) ≤ n
 owned_few p n = omega (arith, length-filter p (range_with_len 0 n), count_by-le-length p (range_with_len 0 n), length-range_with_len 0 n)
+
+-- a share has places of the packets, no more than there are
+pub share_within : (o : Options) (packets : List Packet) (w : ℕ) → All (λ i. i < length packets) (share_of_worker o.share o.workers packets w)
+unfolding share_of_worker
+share_within o packets w = owned_within (λ i. worker_of o.share o.workers packets i == w) (length packets)
+
+pub share_few : (o : Options) (packets : List Packet) (w : ℕ) → length (share_of_worker o.share o.workers packets w) ≤ length packets
+unfolding share_of_worker
+share_few o packets w = owned_few (λ i. worker_of o.share o.workers packets i == w) (length packets)
 
 -- what holds of each item holds with one more at the end
 pub grown : {A : Type 0} (P : ℕ → A → Type 0) (xs new : List A) (n : ℕ) (x : A) → length xs ≡ n → new ≡ xs ++ x ∷ [] → ((w : ℕ) (d : A) → w < n → P w (get_or xs w d)) → P n x

@@ -9,3 +9,4 @@ pub mod Running
 pub mod Settling
 pub mod Stepping
 pub mod Sums
+pub mod Turns

@@ -1,7 +1,8 @@
 -- Which packet and which row an update number is of.
-use Rattle.std.proofs.Common.{◌≡◌, ◌<◌, ◌≤◌, ℕ, zero, suc, ◌+◌, ◌-◌, ◌*◌, ◌/◌, ◌%◌, List, [], ◌∷◌, ◌++◌, length, length-append, get_or, sym, ap, ◌∙◌, arith}
+use Rattle.std.proofs.Common.{◌≡◌, ◌<◌, ◌≤◌, ℕ, zero, suc, ◌+◌, ◌-◌, ◌*◌, List, [], ◌∷◌, ◌++◌, length, get_or, inl, inr, sym, ap, ◌∙◌, subst, arith}
 use Rattle.std.specs.List.{flat_map}
-use Rattle.std.proofs.Math.Nat.{mul-suc, div-add-mod, div-lt_iff_lt-mul, mul_comm, mul-le-mul_right}
+use Rattle.std.proofs.Math.Nat.{mul-suc, mul-le-mul_left, mul-le-mul_right}
+use Rattle.std.proofs.lemmas.Bool.{cases_lt}
 use Rattle.std.proofs.lemmas.List.{get_or_append_left, get_or-append-add}
 use Rattle.std.proofs.lemmas.List.FromFn.{length-map-range_with_len, get_or-map-range_with_len}
 use Rattle.hash_rows.specs.declared.shape.Packet.{Packet}
@@ -10,18 +11,9 @@ use Rattle.hash_rows.specs.declared.shape.Update.{Update}
 use Rattle.hash_rows.specs.Rules.{Rules}
 use Rattle.push_history.specs.LagRun.{Terms, Worker, updates_by}
 use Rattle.push_history.specs.Share.{packet_at}
+use Rattle.push_history.proofs.Sharing.{updates_len}
 use Rattle.push_history.specs.Updates.{update_at, update_in_row, updates_at, updates_of}
 use Rattle.octo_engine.specs.Counts.{AreNext, HasShare}
-
-pub updates_len : (r : Rules) (shape : Shape) (packets : List Packet) (share : List ℕ) → length (updates_of r shape packets share) ≡ shape.rows * length share
-unfolding updates_of updates_at
-updates_len r shape packets [] = omega arith
-updates_len r shape packets (i ∷ is) =
-    let here : length (updates_at r shape packets i) ≡ shape.rows = length-map-range_with_len (update_in_row r shape i (packet_at packets i)) 0 shape.rows in
-    let rest : length (flat_map (updates_at r shape packets) is) ≡ shape.rows * length is = updates_len r shape packets is in
-    let more : shape.rows * suc (length is) ≡ shape.rows * length is + shape.rows = mul-suc shape.rows (length is) in
-    let both : length (updates_at r shape packets i ++ flat_map (updates_at r shape packets) is) ≡ length (updates_at r shape packets i) + length (flat_map (updates_at r shape packets) is) = length-append (updates_at r shape packets i) (flat_map (updates_at r shape packets) is) in
-    omega (arith, here, rest, more, both)
 
 -- each packet has one update for each row
 update_place : (r : Rules) (shape : Shape) (packets : List Packet) (share : List ℕ) (q j : ℕ) (d : Update) → q < length share → j < shape.rows
@@ -44,10 +36,11 @@ update_place r shape packets (i ∷ is) (suc q) j d lt inside =
     ∙ update_place r shape packets is q j d (omega (arith, lt)) inside
 
 -- an update number below that of all updates is of a packet of the share
-pub packet_there : (rows number n : ℕ) → 1 ≤ rows → number < rows * n → number / rows < n
-packet_there rows number n some lt =
-    let turned : rows * n ≡ n * rows = mul_comm rows n in
-    (div-lt_iff_lt-mul some).1 (omega (arith, lt, turned))
+packet_there : (rows place first n : ℕ) → rows * place + first < rows * n → place < n
+packet_there rows place first n lt = elim (cases_lt place n) [
+  | inl within ↦ within
+  | inr past ↦ let times : rows * n ≤ rows * place = mul-le-mul_left rows past in absurd (omega (arith, lt, times))
+]
 
 pub rows_times : (rows n most : ℕ) → rows ≤ 8 → n ≤ most → rows * n ≤ 8 * most
 rows_times rows n most few less =
@@ -55,22 +48,27 @@ rows_times rows n most few less =
     omega (arith, times, less)
 
 -- the next updates of the worker are those of one packet in some rows
-pub next_of_share : (r : Rules) (t : Terms) (shape : Shape) (packets : List Packet) (w : ℕ) (share : List ℕ) → HasShare r t shape packets w share
-    → (y : Worker) (number first last : ℕ) → number ≡ y.counted → 1 ≤ shape.rows → number < shape.rows * length share → first ≡ number % shape.rows → last ≤ shape.rows
-    → number + (last - first) ≤ shape.rows * length share
-    → AreNext t w y shape (packet_at packets (get_or share (number / shape.rows) 0)) (get_or share (number / shape.rows) 0) first last
-next_of_share r t shape packets w share has y number first last counted some lt first_is last_is within =
+next_of_share : (r : Rules) (t : Terms) (shape : Shape) (packets : List Packet) (w : ℕ) (share : List ℕ) → HasShare r t shape packets w share
+    → (y : Worker) (place first last : ℕ) → y.counted ≡ shape.rows * place + first → shape.rows * place + first < shape.rows * length share → last ≤ shape.rows
+    → shape.rows * place + first + (last - first) ≤ shape.rows * length share
+    → AreNext t w y shape (packet_at packets (get_or share place 0)) (get_or share place 0) first last
+next_of_share r t shape packets w share has y place first last counted lt last_is within =
     let len : length (updates_by t w) ≡ shape.rows * length share = ap length has.updates ∙ updates_len r shape packets share in
-    let q = number / shape.rows in
-    let there = packet_there shape.rows number (length share) some lt in
-    let parts = div-add-mod number shape.rows in
-    let at : (k : ℕ) → k < last - first → update_at (updates_by t w) (y.counted + k) ≡ update_in_row t.rules shape (get_or share q 0) (packet_at packets (get_or share q 0)) (first + k) = λ k below.
-    let place : y.counted + k ≡ shape.rows * q + (first + k) = omega (arith, counted, parts, first_is) in
+    let there = packet_there shape.rows place first (length share) lt in
+    let at : (k : ℕ) → k < last - first → update_at (updates_by t w) (y.counted + k) ≡ update_in_row t.rules shape (get_or share place 0) (packet_at packets (get_or share place 0)) (first + k) = λ k below.
+    let number : y.counted + k ≡ shape.rows * place + (first + k) = omega (arith, counted) in
     ap (λ (us : List Update). update_at us (y.counted + k)) has.updates
-    ∙ ap (λ n. update_at (updates_of r shape packets share) n) place
-    ∙ update_place r shape packets share q (first + k) _ there (omega (arith, below, last_is))
-    ∙ ap (λ (z : Rules). update_in_row z shape (get_or share q 0) (packet_at packets (get_or share q 0)) (first + k)) (sym has.rules) in
+    ∙ ap (λ n. update_at (updates_of r shape packets share) n) number
+    ∙ update_place r shape packets share place (first + k) _ there (omega (arith, below, last_is))
+    ∙ ap (λ (z : Rules). update_in_row z shape (get_or share place 0) (packet_at packets (get_or share place 0)) (first + k)) (sym has.rules) in
     record { within = omega (arith, len, counted, within); rows = at }
+
+-- the same, where the packet's position was looked up
+pub next_at : (r : Rules) (t : Terms) (shape : Shape) (packets : List Packet) (w : ℕ) (share : List ℕ) → HasShare r t shape packets w share
+    → (y : Worker) (place first last position : ℕ) → position ≡ get_or share place 0 → y.counted ≡ shape.rows * place + first → shape.rows * place + first < shape.rows * length share
+    → last ≤ shape.rows → shape.rows * place + first + (last - first) ≤ shape.rows * length share → AreNext t w y shape (packet_at packets position) position first last
+next_at r t shape packets w share has y place first last position at counted lt last_is within =
+    subst (λ p. AreNext t w y shape (packet_at packets p) p first last) (sym at) (next_of_share r t shape packets w share has y place first last counted lt last_is within)
 
 pub has_len : (r : Rules) (t : Terms) (shape : Shape) (packets : List Packet) (w : ℕ) (share : List ℕ) → HasShare r t shape packets w share → length (updates_by t w) ≡ shape.rows * length share
 has_len r t shape packets w share has = ap length has.updates ∙ updates_len r shape packets share

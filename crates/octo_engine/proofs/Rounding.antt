@@ -51,9 +51,9 @@ module _ (t : Terms) (o : Options) (w : ℕ) (some : 1 ≤ t.capacity) where
   block_less : (x : Worker) → 1 ≤ o.batch → 1 ≤ o.shape.rows * o.round → IsWithin t w x → is_own_busy t w x ≡ true → work_left t w (own_rounds t o w block x) < work_left t w x
   block_less x batch round within busy =
       let first = less_left t o w x some batch round busy within.taken within.counted in
-      let rest = rounds_no_more 31 (own_round t o w x) (round_within t o w x some within) in
+      let rest = rounds_no_more (block - 1) (own_round t o w x) (round_within t o w x some within) in
       let far = rest.1 in
-      let all : work_left t w (own_rounds t o w 31 (own_round t o w x)) ≡ work_left t w (own_rounds t o w block x) = ap (work_left t w) (rounds_more t o w 1 31 x) in
+      let all : work_left t w (own_rounds t o w (block - 1) (own_round t o w x)) ≡ work_left t w (own_rounds t o w block x) = ap (work_left t w) (rounds_more t o w 1 (block - 1) x) in
       omega (arith, first, far, all)
 
 lt_by : (a b : ℕ) → nat_lt a b ≡ nat_lt 0 (b - a)
@@ -96,7 +96,7 @@ module _ {K H : Type 0} (r : Rules) (stands : H → ℤ → ℤ → Type 0) (t :
       let has = subst (λ (l : List ℕ). HasShare r t o.shape packets w l) (sym old.share) (terms.shares w lt) in
       let run = moved.run t w (own_rounds t o w n fresh_worker) has old.keeps in
       record {
-        share = ap (λ s. s.items) moved.share ∙ old.share;
+        share = moved.share ∙ old.share;
         sound = moved.sound;
         keeps = subst (λ (x : Worker). Keeps stands t w (slice_index_or new w p).counter x) (rounds_more t o w n block fresh_worker) run.keeps;
       } in

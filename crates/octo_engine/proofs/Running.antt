@@ -127,9 +127,9 @@ module _ {H : Type 0} where
         taken = omega arith;
       })
 
-pub room_left : (round batch lane taken room : ℕ) → round < 32 → taken ≤ round * batch → lane + 32 * batch < room → taken + lane < room
+pub room_left : (round batch lane taken room : ℕ) → round < block → taken ≤ round * batch → lane + block * batch < room → taken + lane < room
 room_left round batch lane taken room lt most less =
-    let times : round * batch ≤ 31 * batch = mul-le-mul_right batch (omega (arith, lt)) in
+    let times : round * batch ≤ (block - 1) * batch = mul-le-mul_right batch (omega (arith, lt)) in
     omega (arith, times, most, less)
 
 pub batch_more : (round batch taken more : ℕ) → taken ≤ round * batch → more ≤ taken + batch → more ≤ (round + 1) * batch

@@ -15,7 +15,7 @@ use Rattle.octo_engine.specs.Counts.{HasShare, IsFit}
 
 -- the rounds of a block
 abbrev pub block : ℕ
-block = 32
+block = 128
 
 -- where round k of the block ends among the messages
 abbrev pub end_at : List ℕ → ℕ → ℕ
@@ -44,7 +44,7 @@ module _ {K Held : Type 0} where
 
   -- the part is fit, and its queue has room for a block
   pub record IsSound (o : Options) (packets : ℕ) (p : Part K Held) : Type 0 where
-    pub fit : IsFit o packets p.share.items p.counter
+    pub fit : IsFit o packets p.share p.counter
     pub room : o.lane + block * o.batch < p.counter.room
     pub ends : length p.ends.items ≡ block + 1
 
@@ -58,7 +58,7 @@ module _ {K Held : Type 0} where
 
   -- the part is worker w after n rounds
   pub record IsPart (stands : Held → ℤ → ℤ → Type 0) (t : Terms) (o : Options) (packets : List Packet) (n w : ℕ) (p : Part K Held) : Type 0 where
-    pub share : p.share.items ≡ share_of_worker o.share o.workers packets w
+    pub share : p.share ≡ share_of_worker o.share o.workers packets w
     pub sound : IsSound o (length packets) p
     pub keeps : Keeps stands t w p.counter (own_rounds t o w n fresh_worker)
 
@@ -67,4 +67,4 @@ module _ {K Held : Type 0} where
     pub share : q.share ≡ p.share
     pub sound : IsSound o (length packets) q
     pub ends : AreEnds q.ends.items block q.counter.taken
-    pub run : (t : Terms) (w : ℕ) (x : Worker) → HasShare r t o.shape packets w p.share.items → Keeps stands t w p.counter x → HasRun stands t o w x block q.ends.items q.counter
+    pub run : (t : Terms) (w : ℕ) (x : Worker) → HasShare r t o.shape packets w p.share → Keeps stands t w p.counter x → HasRun stands t o w x block q.ends.items q.counter

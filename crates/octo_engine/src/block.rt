@@ -10,6 +10,7 @@ ghost use Rattle.octo_engine.specs.Parts.{AreEnds, HasRun, IsSound, RanBlock, bl
 
 use crate::counts::count_in_round;
 use crate::part::{BLOCK, Part};
+use crate::positions::Positions;
 use counting::Counter;
 use hash_rows::{Kind, Options, Packet};
 use std::thread::{Threads, for_each_mut};
@@ -61,13 +62,13 @@ fn run_block<K: Kind>(part: &mut Part<K>, packets: &[Packet], options: &Options)
     ensures share { part.new.share ≡ part.old.share }
     ensures sound { IsSound options.now (length packets.now) part.new }
     ensures ends { AreEnds part.new.ends.items block part.new.counter.taken }
-    ensures run { (t : Terms) (w : ℕ) (x : Worker) → HasShare K.rules t options.now.shape packets.now w part.old.share.items
+    ensures run { (t : Terms) (w : ℕ) (x : Worker) → HasShare K.rules t options.now.shape packets.now w part.old.share
         → Keeps K.stands t w part.old.counter x → HasRun K.stands t options.now w x block part.new.ends.items part.new.counter }
 {
     part.counter.clear();
     part.ends.set(0, 0);
     for round in 0..BLOCK {
-        run_round(&mut part.counter, part.share.as_slice(), packets, options);
+        run_round(&mut part.counter, &part.share, packets, options);
         let end = part.counter.taken();
         part.ends.set(round + 1, end);
     }
@@ -76,7 +77,7 @@ fn run_block<K: Kind>(part: &mut Part<K>, packets: &[Packet], options: &Options)
 // Runs one round of the worker: it counts, and then gives its oldest messages away to be folded.
 fn run_round<K: Kind>(
     counter: &mut Counter<K>,
-    share: &[u32],
+    share: &Positions,
     packets: &[Packet],
     options: &Options,
 )

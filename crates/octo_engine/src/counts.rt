@@ -7,6 +7,7 @@ ghost use Rattle.counting.specs.Desk.{Extends, SameDesk};
 ghost use Rattle.counting.specs.Keeps.{Keeps};
 ghost use Rattle.octo_engine.specs.Counts.{AreNext, HasCounted, HasMoved, HasShare, IsFit};
 
+use crate::positions::Positions;
 use counting::Counter;
 use hash_rows::{Kind, Options, Packet, Shape, Update, cell_in_row, hash_in_row, key_hash};
 use push_history::Reply;
@@ -14,7 +15,7 @@ use push_history::Reply;
 /// Counts the worker's next updates, as many as a round has, ending early where a push waits.
 pub fn count_in_round<K: Kind>(
     counter: &mut Counter<K>,
-    share: &[u32],
+    share: &Positions,
     packets: &[Packet],
     options: &Options,
 )
@@ -35,7 +36,7 @@ pub fn count_in_round<K: Kind>(
 // How many updates the worker counts in the round, unless a push waits.
 fn due_in_round<K: Kind>(
     counter: &Counter<K>,
-    share: &[u32],
+    share: &Positions,
     packets: &[Packet],
     options: &Options,
 ) -> u32
@@ -46,14 +47,14 @@ fn due_in_round<K: Kind>(
 {
     let _packets = packets;
     let rows = options.shape.rows;
-    let left = rows * share.len() as u32 - counter.counted();
+    let left = rows * share.len() - counter.counted();
     left.min(rows * options.round)
 }
 
 // Counts so many of the worker's next updates, ending early where a push waits.
 fn count_updates<K: Kind>(
     counter: &mut Counter<K>,
-    share: &[u32],
+    share: &Positions,
     packets: &[Packet],
     options: &Options,
     count: u32,
@@ -68,29 +69,39 @@ fn count_updates<K: Kind>(
     ensures same { SameDesk counter.old counter.new }
     ensures grows { Extends counter.old.queue counter.new.queue }
 {
+    let rows = options.shape.rows;
+    let counted = counter.counted();
+    let mut place = counted / rows;
+    let mut first = counted % rows;
     let mut left = count;
     while left > 0 {
-        match count_packet(counter, share, packets, options, left) {
+        match count_packet(counter, share, packets, options, place, first, left) {
             Some(some) => left -= some,
             None => return,
         }
+        place += 1;
+        first = 0;
     }
 }
 
-// Counts the worker's next updates of one packet, at most so many. Answers how many, or None where
-// a push waits.
+// Counts the worker's next updates, at most so many, of the packet at this place of its share, of
+// which it has counted the first rows. Answers how many, or None where a push waits.
 fn count_packet<K: Kind>(
     counter: &mut Counter<K>,
-    share: &[u32],
+    share: &Positions,
     packets: &[Packet],
     options: &Options,
+    place: u32,
+    first: u32,
     count: u32,
 ) -> Option<u32>
     requires shape { IsShape options.now.shape }
     requires fit { IsFit options.now (length packets.now) share.now counter.old }
     requires room { counter.old.taken + options.now.lane < counter.old.room }
+    requires next { (first < options.now.shape.rows) × (counter.old.sketch.counted ≡ options.now.shape.rows * place + first) }
     requires count { (1 ≤ count) × (counter.old.sketch.counted + count ≤ counter.old.sketch.room) }
     ensures some { IfSome result (λ some. (1 ≤ some) × (some ≤ count)) }
+    ensures whole { IfSome result (λ some. some < count → first + some ≡ options.now.shape.rows) }
     ensures keeps { (t : Terms) (w : ℕ) (x : Worker) → HasShare K.rules t options.now.shape packets.now w share.now
         → Keeps K.stands t w counter.old x
         → MatchOption result (HasCounted K.stands t w x count true counter.new) (λ some. HasCounted K.stands t w x some false counter.new) }
@@ -98,11 +109,8 @@ fn count_packet<K: Kind>(
 {
     // A copy, of which the loop over the rows reads nothing again.
     let shape = options.shape;
-    let rows = shape.rows;
-    let next = counter.counted();
-    let first = next % rows;
-    let last = rows.min(first + count);
-    let position = share[(next / rows) as usize];
+    let last = shape.rows.min(first + count);
+    let position = share.at(place);
     let packet = &packets[position as usize];
     if count_rows(counter, packet, position, &shape, first, last) {
         None

@@ -8,6 +8,7 @@ mod ending;
 mod fold;
 mod looks;
 mod part;
+mod positions;
 mod rounds;
 mod settle;
 mod settled;

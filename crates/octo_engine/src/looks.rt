@@ -7,20 +7,10 @@ ghost use Rattle.round_law.specs.OwnRounds.{folded_after};
 ghost use Rattle.octo_engine.specs.Looks.{AreAllLooks, AreLooks, Runs, layout_in, looks_wanted};
 
 use flow_base::NoMemory;
-use hash_rows::{Answer, Answers, Cells, Counts, Keys, Kind, Options, Sketch};
+use hash_rows::{Answer, Answers, Cells, Counts, Keys, Kind, Options, Sketch, ZERO_KEY};
 use listed::Listed;
 use live_view::State;
-use packet_key::FlowKey;
 use std::alloc::Global;
-
-/// Estimates of a LogLog depend on no key.
-const ZERO_KEY: FlowKey = FlowKey::V4 {
-    src: 0,
-    dst: 0,
-    sport: 0,
-    dport: 0,
-    proto: 0,
-};
 
 /// The keys that each ask asks for.
 pub fn asked_keys(alloc: Global, options: &Options) -> Result<Keys, NoMemory>

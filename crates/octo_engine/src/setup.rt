@@ -1,17 +1,18 @@
-ghost use Rattle.std.specs.Prelude.{◌≡◌, ◌<◌, ◌≤◌, ◌^◌, ◌==◌, ◌+◌, ◌*◌, ℕ, [], All, length, filter, IfOk, OnOk, slice_index_or};
-ghost use Rattle.std.specs.List.{range_with_len};
+ghost use Rattle.std.specs.Prelude.{◌≡◌, ◌<◌, ◌≤◌, ◌^◌, ◌+◌, ◌*◌, ℕ, [], All, length, IfOk, OnOk};
 ghost use Rattle.hash_rows.specs.Lawful.{IsLawful};
 ghost use Rattle.hash_rows.specs.Shapes.{size_of};
 ghost use Rattle.push_history.specs.Journal.{terms_of};
 ghost use Rattle.push_history.specs.LagRun.{Terms, fresh_worker};
+ghost use Rattle.push_history.specs.Share.{share_of_worker};
 ghost use Rattle.counting.specs.Keeps.{Keeps};
 ghost use Rattle.live_view.specs.Fold.{fresh_state};
 ghost use Rattle.octo_engine.specs.Looks.{layout_in};
+ghost use Rattle.octo_engine.specs.Owners.{AreOwners};
 ghost use Rattle.octo_engine.specs.Parts.{IsSound, block};
 ghost use Rattle.octo_engine.specs.Rounds.{AreParts, Suit};
 
 use crate::part::{BLOCK, Part};
-use crate::shares::{owners_of, share_of_owner};
+use crate::shares::{Owners, amounts_fit, owners_of, positions_of};
 use counting::Counter;
 use flow_base::NoMemory;
 use hash_rows::{Kind, Options, Packet};
@@ -32,12 +33,13 @@ pub fn parts_of<K: Kind>(
     ensures parts { IfOk result (λ parts. AreParts K.stands (terms_of packets.now options.now) options.now packets.now 0 parts.items) }
     ensures amounts { OnOk result (All (λ p. p.amount < 2 ^ 32) packets.now) }
 {
+    amounts_fit(packets);
     let owners = owners_of(alloc, packets, options)?;
     let Ok(mut parts) = Vec::with_capacity(alloc, options.workers as usize) else {
         return Err(NoMemory);
     };
     for worker in 0..options.workers {
-        let part = part_of(alloc, &owners, worker, options)?;
+        let part = part_of(alloc, &owners, worker, packets, options)?;
         parts.push_reserved(part);
     }
     Ok(parts)
@@ -61,17 +63,20 @@ pub fn state_of<K: Kind>(alloc: Global, options: &Options) -> Result<State<K>, N
 // The part of a worker that has counted nothing.
 fn part_of<K: Kind>(
     alloc: Global,
-    owners: &Listed<u32>,
+    owners: &Owners,
     worker: u32,
+    packets: &[Packet],
     options: &Options,
 ) -> Result<Part<K>, NoMemory>
     requires lawful { IsLawful options.now }
-    requires few { length owners.now.items ≤ 16777216 }
-    ensures share { IfOk result (λ part. part.share.items ≡ filter (λ i. slice_index_or owners.now.items i 0 == worker) (range_with_len 0 (length owners.now.items))) }
-    ensures sound { IfOk result (λ part. IsSound options.now (length owners.now.items) part) }
+    requires worker { worker < options.now.workers }
+    requires few { length packets.now ≤ 16777216 }
+    requires owners { AreOwners options.now packets.now owners.now }
+    ensures share { IfOk result (λ part. part.share ≡ share_of_worker options.now.share options.now.workers packets.now worker) }
+    ensures sound { IfOk result (λ part. IsSound options.now (length packets.now) part) }
     ensures fresh { IfOk result (λ part. (t : Terms) → Suit K.rules t options.now → Keeps K.stands t worker part.counter fresh_worker) }
 {
-    let share = share_of_owner(alloc, owners, worker)?;
+    let share = positions_of(alloc, owners, worker, packets, options)?;
     let counter = counter_of(alloc, worker, share.len(), options)?;
     let ends = Listed::filled(alloc, BLOCK + 1, 0)?;
     Ok(Part {

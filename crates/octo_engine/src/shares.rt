@@ -1,66 +1,89 @@
-ghost use Rattle.std.specs.Prelude.{◌≡◌, ◌<◌, ◌≤◌, ◌^◌, ◌==◌, ◌+◌, ◌%◌, ℕ, List, All, length, map, filter, IfOk, OnOk, true, if◌then◌else◌, ◌++◌, ◌∷◌, [], slice_index_or};
+ghost use Rattle.std.specs.Prelude.{◌≡◌, ◌<◌, ◌≤◌, ◌^◌, ◌==◌, ◌+◌, ℕ, All, length, map, filter, IfOk, true, if◌then◌else◌, ◌++◌, ◌∷◌, [], slice_index_or};
 ghost use Rattle.std.specs.List.{range_with_len};
-ghost use Rattle.hash_rows.specs.declared.shape.Packet.{Packet};
-ghost use Rattle.push_history.specs.Share.{packet_at, share_of_worker, worker_of};
+ghost use Rattle.hash_rows.specs.declared.options.Share.TheVariants.{Key};
+ghost use Rattle.push_history.specs.Share.{share_of_worker, worker_of};
+ghost use Rattle.octo_engine.specs.Owners.{AreOwners};
 
+use crate::positions::Positions;
 use flow_base::NoMemory;
 use hash_rows::{Options, Packet, Share, share_of};
 use listed::Listed;
 use std::alloc::Global;
 
-/// The worker of each packet.
-pub fn owners_of(
-    alloc: Global,
-    packets: &[Packet],
-    options: &Options,
-) -> Result<Listed<u32>, NoMemory>
+/// Who owns each packet.
+#[derive(Drop)]
+pub enum Owners {
+    /// The workers in turn.
+    InTurn,
+    /// The worker of each packet.
+    Listed(Listed<u32>),
+}
+
+/// Who owns each packet. Only the owners by key are listed.
+pub fn owners_of(alloc: Global, packets: &[Packet], options: &Options) -> Result<Owners, NoMemory>
     requires workers { 0 < options.now.workers }
     requires few { length packets.now ≤ 16777216 }
-    ensures owners { IfOk result (λ owners. owners.items ≡ map (worker_of options.now.share options.now.workers packets.now) (range_with_len 0 (length packets.now))) }
-    ensures amounts { OnOk result (All (λ p. p.amount < 2 ^ 32) packets.now) }
+    ensures { IfOk result (λ owners. AreOwners options.now packets.now owners) }
+{
+    match options.share {
+        Share::Turn => Ok(Owners::InTurn),
+        Share::Key => Ok(Owners::Listed(owners_by_key(alloc, packets, options.workers)?)),
+    }
+}
+
+// The worker of each packet by its key.
+fn owners_by_key(alloc: Global, packets: &[Packet], workers: u32) -> Result<Listed<u32>, NoMemory>
+    requires some { 0 < workers }
+    requires few { length packets.now ≤ 16777216 }
+    ensures { IfOk result (λ owners. owners.items ≡ map (worker_of Key workers packets.now) (range_with_len 0 (length packets.now))) }
 {
     let count = packets.len() as u32;
     let mut owners = Listed::new(alloc, count)?;
-    let share = options.share;
-    let workers = options.workers;
-    let mut turn = 0;
     for position in 0..count {
         let packet = &packets[position as usize];
-        owners.push(owner_of(packet, turn, share, workers));
-        turn = next_turn(turn, workers);
+        owners.push(share_of(&packet.key, workers));
     }
     Ok(owners)
 }
 
-// The worker of a packet, where this worker's turn is.
-fn owner_of(packet: &Packet, turn: u32, share: Share, workers: u32) -> u32
-    requires { 0 < workers }
-    ensures owner { (packets : List Packet) (position : ℕ) → packet_at packets position ≡ packet.now → turn ≡ position % workers
-        → result ≡ worker_of share workers packets position }
-    ensures amount { packet.now.amount < 2 ^ 32 }
+/// The positions of the worker's packets.
+pub fn positions_of(
+    alloc: Global,
+    owners: &Owners,
+    worker: u32,
+    packets: &[Packet],
+    options: &Options,
+) -> Result<Positions, NoMemory>
+    requires worker { worker < options.now.workers }
+    requires workers { options.now.workers ≤ 16 }
+    requires few { length packets.now ≤ 16777216 }
+    requires owners { AreOwners options.now packets.now owners.now }
+    ensures { IfOk result (λ share. share ≡ share_of_worker options.now.share options.now.workers packets.now worker) }
 {
-    let _amount = packet.amount;
-    match share {
-        Share::Turn => turn,
-        Share::Key => share_of(&packet.key, workers),
+    let workers = options.workers;
+    match owners {
+        Owners::InTurn => Ok(Positions::of_turn(worker, workers, packets.len() as u32)),
+        Owners::Listed(list) => Ok(Positions::of_list(share_of_owner(alloc, list, worker)?)),
     }
 }
 
-// Whose turn is next, found with no division.
-fn next_turn(turn: u32, workers: u32) -> u32
-    requires { turn < workers }
-    ensures within { result < workers }
-    ensures next { (position : ℕ) → turn ≡ position % workers → result ≡ (position + 1) % workers }
+/// Each amount fits in 32 bits. Only the proof needs the loop, and the compiler drops it.
+pub fn amounts_fit(packets: &[Packet])
+    ensures { All (λ p. p.amount < 2 ^ 32) packets.now }
 {
-    if turn + 1 == workers { 0 } else { turn + 1 }
+    for packet in packets {
+        amount_fits(packet);
+    }
 }
 
-/// The positions of the packets that the worker owns.
-pub fn share_of_owner(
-    alloc: Global,
-    owners: &Listed<u32>,
-    worker: u32,
-) -> Result<Listed<u32>, NoMemory>
+fn amount_fits(packet: &Packet)
+    ensures { packet.now.amount < 2 ^ 32 }
+{
+    let _amount = packet.amount;
+}
+
+// The positions of the packets that the worker owns.
+fn share_of_owner(alloc: Global, owners: &Listed<u32>, worker: u32) -> Result<Listed<u32>, NoMemory>
     ensures { IfOk result (λ share. share.items ≡ filter (λ i. slice_index_or owners.now.items i 0 == worker) (range_with_len 0 (length owners.now.items))) }
 {
     let mut share = Listed::new(alloc, count_owned(owners, worker))?;

@@ -10,8 +10,6 @@ loop-round-preserved g c =
     let d = c.loop-round.part.counter in
     let now = c.run_round.new.counter in
     let taken = c.run_round.ensures.taken in
-    let items = ap (λ share. share.items) inv.0 in
-    let slice : c.as_slice.result.now ≡ c.loop-round.part.share.items = c.as_slice.ensures in
     let ends = ends_more c.loop-round.part.ends.items c.loop-round.round d.taken now.taken inv.3 taken.0 c.loop-round-test.true in
     let stored = c.set-in-loop-round.ensures.items in (
       search inv,
@@ -20,7 +18,7 @@ loop-round-preserved g c =
       subst (λ (es : List ℕ). AreEnds es (c.loop-round.round + 1) now.taken) (sym (stored ∙ ap (λ e. set c.loop-round.part.ends.items (c.loop-round.round + 1) e) c.taken-end.ensures)) ends,
       batch_more c.loop-round.round c.args.options.now.batch d.taken now.taken inv.4 taken.1,
       λ t w x has keeps.
-          let here = subst (λ (l : List ℕ). HasShare g.K.Kind.rules t c.args.options.now.shape c.args.packets.now w l) (sym (slice ∙ items)) has in
+          let here = subst (λ (l : List ℕ). HasShare g.K.Kind.rules t c.args.options.now.shape c.args.packets.now w l) (sym inv.0) has in
           let run = inv.5 t w x has keeps in
           subst (λ (es : List ℕ). HasRun g.K.Kind.stands t c.args.options.now w x (c.loop-round.round + 1) es now) (sym stored)
           (run_more g.K.Kind.stands t c.args.options.now w x c.loop-round.round c.loop-round.part.ends.items d now c.taken-end.result run inv.3 inv.1.taken c.run_round.ensures.grows c.loop-round-test.true c.taken-end.ensures

@@ -7,7 +7,7 @@ use Rattle.octo_engine.proofs.block.run_block.Given as goal
 
 abbrev pub invariant-loop-round : goal.invariant-loop-round
 invariant-loop-round g l =
-    (l.part.share ≡ l.fn.part.share) × IsFit l.options (length l.packets) l.part.share.items l.part.counter × (l.part.counter.room ≡ l.fn.part.counter.room)
+    (l.part.share ≡ l.fn.part.share) × IsFit l.options (length l.packets) l.part.share l.part.counter × (l.part.counter.room ≡ l.fn.part.counter.room)
     × AreEnds l.part.ends.items l.round l.part.counter.taken × (l.part.counter.taken ≤ l.round * l.options.batch)
-    × ((t : Terms) (w : ℕ) (x : Worker) → HasShare g.K.Kind.rules t l.options.shape l.packets w l.fn.part.share.items → Keeps g.K.Kind.stands t w l.fn.part.counter x
+    × ((t : Terms) (w : ℕ) (x : Worker) → HasShare g.K.Kind.rules t l.options.shape l.packets w l.fn.part.share → Keeps g.K.Kind.stands t w l.fn.part.counter x
     → HasRun g.K.Kind.stands t l.options w x l.round l.part.ends.items l.part.counter)

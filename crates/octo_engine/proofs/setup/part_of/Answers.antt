@@ -1,27 +1,26 @@
-use Rattle.std.proofs.Common.{◌∙◌, ◌<◌, ◌+◌, ◌*◌, ◌==◌, ℕ, Bool, List, All, sym, ap, subst, arith, length, slice_index_or}
+use Rattle.std.proofs.Common.{◌∙◌, ◌<◌, ◌+◌, ◌*◌, ℕ, List, All, sym, ap, subst, arith, length}
 use Rattle.std.proofs.lemmas.List.{length-replicate}
 use Rattle.octo_engine.specs.Parts.{block}
-use Rattle.octo_engine.proofs.Beginning.{owned_few, owned_within}
+use Rattle.octo_engine.proofs.Beginning.{share_few, share_within}
 use Rattle.octo_engine.proofs.setup.part_of.Goals as goal
 
 pub counter_of-requires-clause-few : goal.counter_of-requires-clause-few
 counter_of-requires-clause-few g c κs within =
-    let p : ℕ → Bool = λ i. slice_index_or c.args.owners.now.items i 0 == c.args.worker in
-    let few = owned_few p (length c.args.owners.now.items) in
+    let few = share_few c.args.options.now c.args.packets.now c.args.worker in
     let len = c.len.ensures ∙ ap length c.in_ok-share.ensures in
     omega (arith, few, len, c.requires.few)
 
 pub returns-clause-sound : goal.returns-clause-sound
 returns-clause-sound g c =
-    let p : ℕ → Bool = λ i. slice_index_or c.args.owners.now.items i 0 == c.args.worker in
-    let few = owned_few p (length c.args.owners.now.items) in
+    let packets = c.args.packets.now in
+    let few = share_few c.args.options.now packets c.args.worker in
     let len = ap length c.in_ok-share.ensures in
     let updates = c.in_ok-counter.ensures.updates in
     let queue = c.in_ok-counter.ensures.queue in
     let none = ap length queue.0 in
     record {
       fit = record {
-        within = subst (λ (l : List ℕ). All (λ i. i < length c.args.owners.now.items) l) (sym c.in_ok-share.ensures) (owned_within p (length c.args.owners.now.items));
+        within = subst (λ (l : List ℕ). All (λ i. i < length packets) l) (sym c.in_ok-share.ensures) (share_within c.args.options.now packets c.args.worker);
         few = omega (arith, few, len, c.requires.few);
         updates = updates.0 ∙ ap (λ n. c.args.options.now.shape.rows * n) c.len.ensures;
         counted = omega (arith, updates.1);
