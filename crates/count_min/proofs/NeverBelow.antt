@@ -15,7 +15,7 @@ use Rattle.hash_rows.specs.Amounts.{key_amount, total_amount}
 use Rattle.hash_rows.specs.Keys.{same_key}
 use Rattle.hash_rows.specs.Rules.{sums}
 use Rattle.hash_rows.specs.Sequential.{packet_values, cell_values, sequential, sequential_table}
-use Rattle.hash_rows.specs.Shapes.{IsShape, place_of, size_of}
+use Rattle.hash_rows.specs.Shapes.{IsShape, cell_of, size_of}
 use Rattle.hash_rows.specs.Sketches.{is_sum, least_of, sum_join, count_min_value, count_min_estimate, key_cells, rows_of}
 use Rattle.hash_rows.specs.Tables.{value_at}
 use Rattle.hash_rows.proofs.EqualKeys.{same_key-eq}
@@ -42,7 +42,7 @@ rows_joined n (row ∷ rows) s small =
 
 -- the rows in which the packet's key has the cell
 unfoldable pub rows_at : Shape → ℕ → Packet → List ℕ
-rows_at shape cell packet = filter (λ row. place_of shape packet.key row == cell) (rows_of shape)
+rows_at shape cell packet = filter (λ row. cell_of shape packet.key row == cell) (rows_of shape)
 
 -- what the packet adds to the cell
 unfoldable pub added : Shape → ℕ → Packet → ℕ
@@ -111,30 +111,30 @@ least_of_rows b f (suc n) some each =
 pub added_most : (shape : Shape) → IsShape shape → (cell : ℕ) (p : Packet) → added shape cell p ≤ p.amount
 unfolding added rows_at
 added_most shape lawful cell p =
-    let test : ℕ → Bool = λ row. place_of shape p.key row == cell in
+    let test : ℕ → Bool = λ row. cell_of shape p.key row == cell in
     let says : (row : ℕ) → test row ≡ true → row ≡ cell / shape.columns =
-    λ row here. sym (row_of_place shape lawful p.key row) ∙ ap (λ c. c / shape.columns) (eqb-true (place_of shape p.key row) cell here) in
+    λ row here. sym (row_of_place shape lawful p.key row) ∙ ap (λ c. c / shape.columns) (eqb-true (cell_of shape p.key row) cell here) in
     let once = mul-le-mul_left p.amount (once_at_most test (cell / shape.columns) says 0 shape.rows) in
     omega arith
 
 added_least : (shape : Shape) (key : FlowKey) (row : ℕ) → row < shape.rows → (p : Packet)
-    → (if same_key p.key key then p.amount else 0) ≤ added shape (place_of shape key row) p
+    → (if same_key p.key key then p.amount else 0) ≤ added shape (cell_of shape key row) p
 unfolding added rows_at
 added_least shape key row within p = by_test (same_key p.key key) refl where
-  by_test : (b : Bool) → same_key p.key key ≡ b → (if b then p.amount else 0) ≤ added shape (place_of shape key row) p
+  by_test : (b : Bool) → same_key p.key key ≡ b → (if b then p.amount else 0) ≤ added shape (cell_of shape key row) p
   by_test true same =
-      let test : ℕ → Bool = λ r. place_of shape p.key r == place_of shape key row in
-      let place : place_of shape p.key row ≡ place_of shape key row = ap (λ k. place_of shape k row) (same_key-eq p.key key same) in
-      let here : test row ≡ true = eq-eqb (place_of shape p.key row) (place_of shape key row) place in
+      let test : ℕ → Bool = λ r. cell_of shape p.key r == cell_of shape key row in
+      let place : cell_of shape p.key row ≡ cell_of shape key row = ap (λ k. cell_of shape k row) (same_key-eq p.key key same) in
+      let here : test row ≡ true = eq-eqb (cell_of shape p.key row) (cell_of shape key row) place in
       let once = mul-le-mul_left p.amount (once_at_least test row here 0 shape.rows (omega arith) (omega arith)) in
       omega arith
   by_test false other = omega arith
 
 pub cell_at_least : (shape : Shape) → IsShape shape → (packets : List Packet) (key : FlowKey) (row : ℕ) → row < shape.rows → total_amount packets < 2 ^ 63
-    → pos (key_amount packets key) ≤ℤ sequential (sums count_min_value count_min_estimate) shape packets (place_of shape key row)
+    → pos (key_amount packets key) ≤ℤ sequential (sums count_min_value count_min_estimate) shape packets (cell_of shape key row)
 unfolding key_amount total_amount sequential cell_values
 cell_at_least shape lawful packets key row within total =
-    let cell = place_of shape key row in
+    let cell = cell_of shape key row in
     let most : sum_by (added shape cell) packets ≤ sum_by (λ p. p.amount) packets =
     sum_by-le-sum_by (added shape cell) (λ p. p.amount) packets (added_most shape lawful cell) in
     let least : key_amount packets key ≤ sum_by (added shape cell) packets =
@@ -148,9 +148,9 @@ unfolding count_min_estimate key_cells sequential_table
 never_below shape lawful packets key total =
     let rules = sums count_min_value count_min_estimate in
     let cells = map (sequential rules shape packets) (range_with_len 0 (size_of shape)) in
-    let each : (row : ℕ) → row < shape.rows → pos (key_amount packets key) ≤ℤ value_at cells (place_of shape key row) = λ row within.
+    let each : (row : ℕ) → row < shape.rows → pos (key_amount packets key) ≤ℤ value_at cells (cell_of shape key row) = λ row within.
     let place = place_within shape lawful key row within in
     subst (λ x. pos (key_amount packets key) ≤ℤ x)
-    (sym (get_or-map-range_with_len (sequential rules shape packets) 0 (size_of shape) (place_of shape key row) (place_of shape key row) (pos 0) place (omega arith)))
+    (sym (get_or-map-range_with_len (sequential rules shape packets) 0 (size_of shape) (cell_of shape key row) (cell_of shape key row) (pos 0) place (omega arith)))
     (cell_at_least shape lawful packets key row within total) in
-    least_of_rows (pos (key_amount packets key)) (λ row. value_at cells (place_of shape key row)) shape.rows (omega (arith, lawful.some_rows)) each
+    least_of_rows (pos (key_amount packets key)) (λ row. value_at cells (cell_of shape key row)) shape.rows (omega (arith, lawful.some_rows)) each

@@ -25,14 +25,11 @@ impl Plan {
     pub fn new(alloc: Global, failing: &[u32]) -> Result<Plan, NoMemory>
         ensures { IfOk result (λ plan. plan ≡ record { failing = failing.now; made = 0; faults = 0 }) }
     {
-        match failing.to_vec(alloc) {
-            Ok(failing) => Ok(Plan {
-                failing,
-                made: 0,
-                faults: 0,
-            }),
-            Err(_) => Err(NoMemory),
-        }
+        Ok(Plan {
+            failing: failing.to_vec(alloc)?,
+            made: 0,
+            faults: 0,
+        })
     }
 
     pub fn made(&self) -> u64

@@ -51,15 +51,13 @@ impl MemSink {
     {
         let plan = Plan::new(alloc, failing)?;
         let room = room as usize;
-        match Vec::with_capacity(alloc, room) {
-            Ok(bytes) => Ok(MemSink {
-                bytes,
-                room,
-                piece: piece as usize,
-                plan,
-            }),
-            Err(_) => Err(NoMemory),
-        }
+        let bytes = Vec::with_capacity(alloc, room)?;
+        Ok(MemSink {
+            bytes,
+            room,
+            piece: piece as usize,
+            plan,
+        })
     }
 
     pub fn held(&self) -> &[u8]

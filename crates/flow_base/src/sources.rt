@@ -29,10 +29,10 @@ impl SureSource {
     pub fn new(alloc: Global, bytes: &[u8]) -> Result<SureSource, NoMemory>
         ensures { IfOk result (λ source. source ≡ bytes.now) }
     {
-        match bytes.to_vec(alloc) {
-            Ok(bytes) => Ok(SureSource { bytes, at: 0 }),
-            Err(_) => Err(NoMemory),
-        }
+        Ok(SureSource {
+            bytes: bytes.to_vec(alloc)?,
+            at: 0,
+        })
     }
 
     // Moves bytes to the front of the buffer, and says how many.

@@ -14,7 +14,7 @@ use Rattle.hash_rows.specs.declared.shape.Push.{Push}
 use Rattle.hash_rows.specs.declared.shape.Shape.{Shape}
 use Rattle.hash_rows.specs.declared.shape.Update.{Update}
 use Rattle.hash_rows.specs.Sequential.{joined_of}
-use Rattle.hash_rows.specs.Shapes.{place_of, size_of}
+use Rattle.hash_rows.specs.Shapes.{cell_of, size_of}
 use Rattle.hash_rows.specs.Sketches.{is_sum, least_of, count_min_estimate, key_cells}
 use Rattle.hash_rows.specs.Tables.{value_at}
 use Rattle.count_min.proofs.NeverBelow.{amount_sum}
@@ -164,8 +164,8 @@ module _ (T : ℕ) (updates : List (List Update)) (messages : List (List Push)) 
       → count_min_estimate shape (shown_cells count_min shape messages front) key ≤ℤ count_min_estimate shape (true_cells count_min shape updates messages front) key
   unfolding count_min_estimate key_cells
   answer_below shape key =
-      least_range_le (λ row. value_at (shown_cells count_min shape messages front) (place_of shape key row)) (λ row. value_at (true_cells count_min shape updates messages front) (place_of shape key row)) shape.rows
-      (λ row lt. let p : ℕ = place_of shape key row in
+      least_range_le (λ row. value_at (shown_cells count_min shape messages front) (cell_of shape key row)) (λ row. value_at (true_cells count_min shape updates messages front) (cell_of shape key row)) shape.rows
+      (λ row lt. let p : ℕ = cell_of shape key row in
       subst (λ (z : ℤ). z ≤ℤ value_at (true_cells count_min shape updates messages front) p) (sym (shown_at shape p))
       (subst (λ (z : ℤ). pos (if nat_lt p (size_of shape) then told_total p else 0) ≤ℤ z) (sym (true_at shape p)) (by p (nat_lt p (size_of shape)))))
     where
@@ -182,16 +182,16 @@ module _ (T : ℕ) (updates : List (List Update)) (messages : List (List Push)) 
       omega (arith, each_short, sums)
 
   -- and falls short of it by no more than the thresholds leave
-  pub answer_short : (shape : Shape) (key : FlowKey) → 1 ≤ T → ((row : ℕ) → row < shape.rows → NoneRefused updates messages refused front (place_of shape key row))
+  pub answer_short : (shape : Shape) (key : FlowKey) → 1 ≤ T → ((row : ℕ) → row < shape.rows → NoneRefused updates messages refused front (cell_of shape key row))
       → count_min_estimate shape (true_cells count_min shape updates messages front) key ≤ℤ (count_min_estimate shape (shown_cells count_min shape messages front) key +ℤ pos (length updates * (T - 1)))
   unfolding count_min_estimate key_cells
   answer_short shape key some none =
       let k : ℕ = length updates * (T - 1) in
-      let shown : ℕ → ℤ = λ row. value_at (shown_cells count_min shape messages front) (place_of shape key row) in
-      let whole : ℕ → ℤ = λ row. value_at (true_cells count_min shape updates messages front) (place_of shape key row) in
+      let shown : ℕ → ℤ = λ row. value_at (shown_cells count_min shape messages front) (cell_of shape key row) in
+      let whole : ℕ → ℤ = λ row. value_at (true_cells count_min shape updates messages front) (cell_of shape key row) in
       let less : least_of (map whole (range_with_len 0 shape.rows)) ≤ℤ least_of (map (λ row. shown row +ℤ pos k) (range_with_len 0 shape.rows)) =
       least_range_le whole (λ row. shown row +ℤ pos k) shape.rows
-      (λ row lt. let p : ℕ = place_of shape key row in
+      (λ row lt. let p : ℕ = cell_of shape key row in
       subst (λ (z : ℤ). z ≤ℤ (shown row +ℤ pos k)) (sym (true_at shape p))
       (subst (λ (z : ℤ). pos (if nat_lt p (size_of shape) then made_total p else 0) ≤ℤ (z +ℤ pos k)) (sym (shown_at shape p)) (by p k (made_short some p (none row lt)) (nat_lt p (size_of shape))))) in
       let more = least_range_more shown k shape.rows in

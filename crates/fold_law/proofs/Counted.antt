@@ -13,7 +13,7 @@ use Rattle.hash_rows.specs.declared.shape.Shape.{Shape}
 use Rattle.hash_rows.specs.declared.shape.Update.{Update}
 use Rattle.hash_rows.specs.Rules.{Rules}
 use Rattle.hash_rows.specs.Sequential.{joined_of}
-use Rattle.hash_rows.specs.Shapes.{place_of, size_of}
+use Rattle.hash_rows.specs.Shapes.{cell_of, size_of}
 use Rattle.hash_rows.specs.Sketches.{count_min_estimate}
 use Rattle.push_history.specs.Front.{IsFront, front_of, messages_of, upto_of}
 use Rattle.push_history.specs.LagRun.{Terms, Worker, State, fresh_worker, updates_by, worker_in}
@@ -158,5 +158,5 @@ module _ (t : Terms) (s : State) (h : IsLawfulState t s) where
           short = λ some none. subst (λ (n : ℕ). count_min_estimate shape (true_cells count_min shape t.updates (messages_in s) front) key ≤ℤ (answer +ℤ pos (n * (t.threshold - 1)))) counted_len
               (subst (λ cells. count_min_estimate shape cells key ≤ℤ (answer +ℤ pos (length (counted_updates t s) * (t.threshold - 1)))) same
               (answer_short t.threshold (counted_updates t s) (messages_in s) (refused_in s) front (messages_len ∙ sym counted_len) is_front pushes counted_plain shape key some
-              (λ row lt. none_refused front is_front (place_of shape key row) (none row lt))));
+              (λ row lt. none_refused front is_front (cell_of shape key row) (none row lt))));
         }

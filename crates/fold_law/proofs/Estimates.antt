@@ -13,7 +13,7 @@ use Rattle.std.proofs.lemmas.List.Sums.{sum_by-take-le}
 use Rattle.packet_key.specs.declared.key.FlowKey.{FlowKey}
 use Rattle.hash_rows.specs.declared.shape.Push.{Push}
 use Rattle.hash_rows.specs.declared.shape.Shape.{Shape}
-use Rattle.hash_rows.specs.Shapes.{place_of, size_of}
+use Rattle.hash_rows.specs.Shapes.{cell_of, size_of}
 use Rattle.hash_rows.specs.Sketches.{is_sum, least_of, count_min_estimate, key_cells, rows_of}
 use Rattle.hash_rows.specs.Tables.{value_at}
 use Rattle.hash_rows.proofs.SumLaws.{count_min_lawful}
@@ -56,8 +56,8 @@ estimate_le : (shape : Shape) (X Y : List Push) (key : FlowKey) → ((cell : ℕ
     → count_min_estimate shape (told_cells count_min shape X) key ≤ℤ count_min_estimate shape (told_cells count_min shape Y) key
 unfolding count_min_estimate key_cells
 estimate_le shape X Y key each =
-    least_le (λ row. value_at (told_cells count_min shape X) (place_of shape key row)) (λ row. value_at (told_cells count_min shape Y) (place_of shape key row)) (rows_of shape)
-    (λ row. cell_le shape X Y each (place_of shape key row))
+    least_le (λ row. value_at (told_cells count_min shape X) (cell_of shape key row)) (λ row. value_at (told_cells count_min shape Y) (cell_of shape key row)) (rows_of shape)
+    (λ row. cell_le shape X Y each (cell_of shape key row))
 
 module _ (messages : List (List Push)) (H : List Push) (fold : IsFoldOf messages H) (plain : All (λ m. IsPlain m.amount) H) (small : (cell : ℕ) → plain_told cell H < 2 ^ 63) where
   amount_of : ℕ → Push → ℕ

@@ -11,7 +11,7 @@ use Rattle.hash_rows.specs.declared.shape.Packet.{Packet}
 use Rattle.hash_rows.specs.declared.shape.Push.{Push}
 use Rattle.hash_rows.specs.declared.shape.Shape.{Shape}
 use Rattle.hash_rows.specs.declared.shape.Update.{Update}
-use Rattle.hash_rows.specs.Shapes.{IsShape, place_of}
+use Rattle.hash_rows.specs.Shapes.{IsShape, cell_of}
 use Rattle.hash_rows.specs.Sketches.{rows_of}
 use Rattle.count_min.proofs.NeverBelow.{added, added_most, rows_at}
 use Rattle.push_history.specs.Share.{packet_at, worker_of, share_of_worker, zero_key}
@@ -105,21 +105,21 @@ member_le f xs k d lt =
 
 -- what a packet adds to a cell in some rows
 packet_rows : (shape : Shape) (cell i : ℕ) (packet : Packet) (rows : List ℕ)
-    → plain_whole cell (map (update_in_row count_min shape i packet) rows) ≡ packet.amount * length (filter (λ row. place_of shape packet.key row == cell) rows)
+    → plain_whole cell (map (update_in_row count_min shape i packet) rows) ≡ packet.amount * length (filter (λ row. cell_of shape packet.key row == cell) rows)
 unfolding update_in_row
 packet_rows shape cell i packet [] = omega arith
-packet_rows shape cell i packet (row ∷ rows) = by (place_of shape packet.key row == cell) refl (packet_rows shape cell i packet rows)
+packet_rows shape cell i packet (row ∷ rows) = by (cell_of shape packet.key row == cell) refl (packet_rows shape cell i packet rows)
   where
     f : Update → ℕ
     f u = if u.cell == cell then unsigned_abs u.value else 0
 
-    by : (b : Bool) → (place_of shape packet.key row == cell) ≡ b
-        → plain_whole cell (map (update_in_row count_min shape i packet) rows) ≡ packet.amount * length (filter (λ row. place_of shape packet.key row == cell) rows)
-        → plain_whole cell (map (update_in_row count_min shape i packet) (row ∷ rows)) ≡ packet.amount * length (if place_of shape packet.key row == cell then row ∷ filter (λ row. place_of shape packet.key row == cell) rows else filter (λ row. place_of shape packet.key row == cell) rows)
+    by : (b : Bool) → (cell_of shape packet.key row == cell) ≡ b
+        → plain_whole cell (map (update_in_row count_min shape i packet) rows) ≡ packet.amount * length (filter (λ row. cell_of shape packet.key row == cell) rows)
+        → plain_whole cell (map (update_in_row count_min shape i packet) (row ∷ rows)) ≡ packet.amount * length (if cell_of shape packet.key row == cell then row ∷ filter (λ row. cell_of shape packet.key row == cell) rows else filter (λ row. cell_of shape packet.key row == cell) rows)
     by true same rest =
         let a = sum_by-cons f (update_in_row count_min shape i packet row) (map (update_in_row count_min shape i packet) rows) in
         let here : f (update_in_row count_min shape i packet row) ≡ packet.amount = rw same refl in
-        rw same (a ∙ (let k : ℕ = length (filter (λ row. place_of shape packet.key row == cell) rows) in let times : packet.amount * (k + 1) ≡ packet.amount * k + packet.amount = omega arith in omega (arith, here, rest, times)))
+        rw same (a ∙ (let k : ℕ = length (filter (λ row. cell_of shape packet.key row == cell) rows) in let times : packet.amount * (k + 1) ≡ packet.amount * k + packet.amount = omega arith in omega (arith, here, rest, times)))
     by false other rest =
         let a = sum_by-cons f (update_in_row count_min shape i packet row) (map (update_in_row count_min shape i packet) rows) in
         let here : f (update_in_row count_min shape i packet row) ≡ 0 = rw other refl in

@@ -8,7 +8,7 @@ use Rattle.hash_rows.specs.declared.shape.Shape.{Shape}
 use Rattle.hash_rows.specs.declared.shape.Update.{Update}
 use Rattle.hash_rows.specs.Rules.{Rules, rules_of}
 use Rattle.hash_rows.specs.Sequential.{joined_of}
-use Rattle.hash_rows.specs.Shapes.{place_of, size_of}
+use Rattle.hash_rows.specs.Shapes.{cell_of, size_of}
 use Rattle.hash_rows.specs.Sketches.{count_min_estimate}
 use Rattle.push_history.specs.Front.{IsFront, upto_of}
 use Rattle.push_history.specs.LawfulJournal.{sent_by}
@@ -59,5 +59,5 @@ pub record AreCounted (threshold : ℕ) (updates : List (List Update)) (messages
 -- refused, it falls short by at most the number of workers times one less than the threshold
 pub record IsNear (threshold : ℕ) (updates : List (List Update)) (messages : List (List Push)) (refused : List (List ℕ)) (front : List ℕ) (shape : Shape) (key : FlowKey) (answer : ℤ) : Type 0 where
   pub below : answer ≤ℤ count_min_estimate shape (true_cells (rules_of CountMin) shape updates messages front) key
-  pub short : 1 ≤ threshold → ((row : ℕ) → row < shape.rows → NoneRefused updates messages refused front (place_of shape key row))
+  pub short : 1 ≤ threshold → ((row : ℕ) → row < shape.rows → NoneRefused updates messages refused front (cell_of shape key row))
       → count_min_estimate shape (true_cells (rules_of CountMin) shape updates messages front) key ≤ℤ (answer +ℤ pos (length updates * (threshold - 1)))

@@ -9,7 +9,7 @@ ghost use Rattle.hash_rows.specs.declared.shape.Push.{Push};
 ghost use Rattle.hash_rows.specs.declared.shape.Shape.{Shape};
 ghost use Rattle.hash_rows.specs.declared.shape.Update.{Update};
 ghost use Rattle.hash_rows.specs.Rules.{rules_of};
-ghost use Rattle.hash_rows.specs.Shapes.{place_of};
+ghost use Rattle.hash_rows.specs.Shapes.{cell_of};
 ghost use Rattle.hash_rows.specs.Sketches.{count_min_estimate};
 ghost use Rattle.push_history.specs.Journal.{rules_in, updates_by_options};
 ghost use Rattle.push_history.specs.LawfulJournal.{sent_by};
@@ -39,7 +39,7 @@ pub fn answers_are_bracketed()
         ≤ℤ count_min_estimate shape (true_cells (rules_of CountMin) shape updates messages front) key }
     ensures short { (threshold : ℕ) (updates : List (List Update)) (messages : List (List Push)) (refused : List (List ℕ)) (front : List ℕ) →
         AreCounted threshold updates messages refused front → (shape : Shape) (key : FlowKey) → 1 ≤ threshold →
-        ((row : ℕ) → row < shape.rows → NoneRefused updates messages refused front (place_of shape key row)) →
+        ((row : ℕ) → row < shape.rows → NoneRefused updates messages refused front (cell_of shape key row)) →
         count_min_estimate shape (true_cells (rules_of CountMin) shape updates messages front) key
         ≤ℤ (count_min_estimate shape (shown_cells (rules_of CountMin) shape messages front) key +ℤ pos (length updates * (threshold - 1))) }
 {}

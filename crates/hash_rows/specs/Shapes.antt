@@ -16,5 +16,5 @@ abbrev pub size_of : Shape → ℕ
 size_of shape = shape.rows * shape.columns
 
 -- the cell of a key in a row
-unfoldable pub place_of : Shape → FlowKey → ℕ → ℕ
-place_of shape key row = row * shape.columns + row_hash_of key row % shape.columns
+unfoldable pub cell_of : Shape → FlowKey → ℕ → ℕ
+cell_of shape key row = row * shape.columns + row_hash_of key row % shape.columns

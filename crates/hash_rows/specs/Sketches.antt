@@ -9,7 +9,7 @@ use Rattle.packet_key.specs.declared.key.FlowKey.{FlowKey}
 use Rattle.hash_rows.specs.declared.shape.Shape.{Shape}
 use Rattle.hash_rows.specs.declared.shape.Packet.{Packet}
 use Rattle.hash_rows.specs.Hash.{row_hash_of}
-use Rattle.hash_rows.specs.Shapes.{place_of}
+use Rattle.hash_rows.specs.Shapes.{cell_of}
 use Rattle.hash_rows.specs.Tables.{value_at}
 
 -- Count-Min and Count Sketch join by sums modulo 2 ^ 64
@@ -51,7 +51,7 @@ rows_of shape = range_with_len 0 shape.rows
 
 -- the key's cell in each row
 unfoldable pub key_cells : Shape → List ℤ → FlowKey → List ℤ
-key_cells shape cells key = map (λ row. value_at cells (place_of shape key row)) (rows_of shape)
+key_cells shape cells key = map (λ row. value_at cells (cell_of shape key row)) (rows_of shape)
 
 -- the least of some numbers
 abbrev pub least_of : List ℤ → ℤ
@@ -77,7 +77,7 @@ lower_median_of xs = slice_index_or (sorted_of xs) ((length xs - 1) / 2) (pos 0)
 
 -- the key's cell in each row, times the row's sign
 unfoldable pub signed_cells : Shape → List ℤ → FlowKey → List ℤ
-signed_cells shape cells key = map (λ row. signed_in_row key row (value_at cells (place_of shape key row))) (rows_of shape)
+signed_cells shape cells key = map (λ row. signed_in_row key row (value_at cells (cell_of shape key row))) (rows_of shape)
 
 unfoldable pub count_sketch_estimate : Shape → List ℤ → FlowKey → ℤ
 count_sketch_estimate shape cells key = lower_median_of (signed_cells shape cells key)

@@ -18,7 +18,7 @@ use Rattle.push_history.specs.Whole.{whole, whole_of}
 use Rattle.push_history.proofs.Growing.{told_all}
 use Rattle.push_history.proofs.Parts.{joined_append}
 use Rattle.push_history.proofs.Telling.{whole_is}
-use Rattle.push_rule.specs.Stands.{Sketch, Waits}
+use Rattle.push_rule.specs.Stands.{PrivateView, Waits}
 use Rattle.lag_core.specs.Lanes.{Queue}
 use Rattle.lag_core.specs.Workers.{IsWorkerAt, terms_of}
 use Rattle.lag_core.specs.Lags.{Core, IsCoreAt, workers_of}
@@ -48,7 +48,7 @@ left_first r U S n cell = ap (r.gap (told r S n cell)) (whole_first r U n cell)
 
 module _ {H : Type 0} (stands : H → ℤ → ℤ → Type 0) (r : Rules) (v : Core H) (s : State) (h : IsCoreAt stands r v s) where
   module _ (w : ℕ) (below : w < workers_of v) where
-    its_sketch : (p : Sketch H) × (slice_get v.sketches w ≡ Some p)
+    its_sketch : (p : PrivateView H) × (slice_get v.sketches w ≡ Some p)
     its_sketch = some_at v.sketches w (omega (arith, below, h.sketches))
 
     its_lane : (q : Queue) × (slice_get v.lanes w ≡ Some q)

@@ -18,7 +18,7 @@ use Rattle.push_history.specs.Front.{front_of, messages_of, message_at}
 use Rattle.push_history.specs.LagRun.{Terms, State, Worker, lag_step, take_step, count_step, pushes, meets_full, message_of, worker_in, fresh_worker, updates_by}
 use Rattle.push_history.specs.Pushes.{distance_at}
 use Rattle.push_history.specs.LiveHeavy.{live_keys, missed_keys}
-use Rattle.push_rule.specs.Stands.{Sketch}
+use Rattle.push_rule.specs.Stands.{PrivateView}
 use Rattle.lag_core.specs.Lanes.{Queue}
 use Rattle.lag_core.specs.Sights.{IsSightOf, with_message}
 use Rattle.lag_core.specs.Workers.{terms_of, IsWorkerAt}
@@ -44,7 +44,7 @@ count_keeps t w s le =
     by false false false Leave m = (refl, refl)
     by false false false Wait m = (refl, refl)
 
-module _ {H : Type 0} (stands : H → ℤ → ℤ → Type 0) (r : Rules) (v : Core H) (w : ℕ) (p : Sketch H) (lane : Queue)
+module _ {H : Type 0} (stands : H → ℤ → ℤ → Type 0) (r : Rules) (v : Core H) (w : ℕ) (p : PrivateView H) (lane : Queue)
     (within : w < workers_of v) (sketch_at : slice_get v.sketches w ≡ Some p) (lane_at : slice_get v.lanes w ≡ Some lane) where
   -- another worker is as it was
   other : (s : State) (x : Worker) (k : ℕ) → w ≢ k → get_or (set s.workers w x) k fresh_worker ≡ worker_in s k
@@ -53,7 +53,7 @@ module _ {H : Type 0} (stands : H → ℤ → ℤ → Type 0) (r : Rules) (v : C
   itself : (s : State) (x : Worker) → length s.workers ≡ workers_of v → get_or (set s.workers w x) w fresh_worker ≡ x
   itself s x same = get_or-set_same s.workers w x fresh_worker (omega (arith, within, same))
 
-  pub update_steps : (q : Sketch H) (lane' : Queue) (reply : Reply) → length q.held ≡ length p.held
+  pub update_steps : (q : PrivateView H) (lane' : Queue) (reply : Reply) → length q.held ≡ length p.held
       → ((x : Worker) → IsWorkerAt stands (terms_of r v.limits) w p lane x
       → IsWorkerAt stands (terms_of r v.limits) w q lane' (count_step (terms_of r v.limits) w x).0 × (reply ≡ (count_step (terms_of r v.limits) w x).1))
       → Steps stands r v (record v { sketches = set v.sketches w q; lanes = set v.lanes w lane' }) (Update w) reply
@@ -81,7 +81,7 @@ module _ {H : Type 0} (stands : H → ℤ → ℤ → Type 0) (r : Rules) (v : C
               | inr ne ↦ there s h y k a b ne (slot_set v.sketches w k q a at_a) (slot_set v.lanes w k lane' b at_b)
             ];
             cells = λ k a at. elim (slot_set v.sketches w k q a at) [
-              | inl e ↦ ap (λ (z : Sketch H). length z.held) (sym e.1) ∙ same_held ∙ h.cells w p sketch_at
+              | inl e ↦ ap (λ (z : PrivateView H). length z.held) (sym e.1) ∙ same_held ∙ h.cells w p sketch_at
               | inr e ↦ h.cells k a e.1
             ];
             fold = h.fold;
@@ -106,17 +106,17 @@ module _ {H : Type 0} (stands : H → ℤ → ℤ → Type 0) (r : Rules) (v : C
         );
   }
     where
-      here : (s : State) → IsCoreAt stands r v s → (y : Worker) → IsWorkerAt stands (terms_of r v.limits) w q lane' y → (k : ℕ) (a : Sketch H) (b : Queue) → w ≡ k
+      here : (s : State) → IsCoreAt stands r v s → (y : Worker) → IsWorkerAt stands (terms_of r v.limits) w q lane' y → (k : ℕ) (a : PrivateView H) (b : Queue) → w ≡ k
           → ((w ≡ k) × (q ≡ a)) ⊎ ((w ≢ k) × (slice_get v.sketches k ≡ Some a)) → ((w ≡ k) × (lane' ≡ b)) ⊎ ((w ≢ k) × (slice_get v.lanes k ≡ Some b))
           → IsWorkerAt stands (terms_of r v.limits) k a b (get_or (set s.workers w y) k fresh_worker)
       here s h y done k a b e (inl ea) (inl eb) =
           subst (λ (j : ℕ). IsWorkerAt stands (terms_of r v.limits) j a b (get_or (set s.workers w y) j fresh_worker)) e
           (subst (λ (z : Worker). IsWorkerAt stands (terms_of r v.limits) w a b z) (sym (itself s y h.workers))
-          (subst (λ (z : Queue). IsWorkerAt stands (terms_of r v.limits) w a z y) eb.1 (subst (λ (z : Sketch H). IsWorkerAt stands (terms_of r v.limits) w z lane' y) ea.1 done)))
+          (subst (λ (z : Queue). IsWorkerAt stands (terms_of r v.limits) w a z y) eb.1 (subst (λ (z : PrivateView H). IsWorkerAt stands (terms_of r v.limits) w z lane' y) ea.1 done)))
       here s h y done k a b e (inr ea) eb = absurd (ea.0 e)
       here s h y done k a b e (inl ea) (inr eb) = absurd (eb.0 e)
 
-      there : (s : State) → IsCoreAt stands r v s → (y : Worker) → (k : ℕ) (a : Sketch H) (b : Queue) → w ≢ k
+      there : (s : State) → IsCoreAt stands r v s → (y : Worker) → (k : ℕ) (a : PrivateView H) (b : Queue) → w ≢ k
           → ((w ≡ k) × (q ≡ a)) ⊎ ((w ≢ k) × (slice_get v.sketches k ≡ Some a)) → ((w ≡ k) × (lane' ≡ b)) ⊎ ((w ≢ k) × (slice_get v.lanes k ≡ Some b))
           → IsWorkerAt stands (terms_of r v.limits) k a b (get_or (set s.workers w y) k fresh_worker)
       there s h y k a b ne (inr ea) (inr eb) = subst (λ (z : Worker). IsWorkerAt stands (terms_of r v.limits) k a b z) (sym (other s y k ne)) (h.each k a b ea.1 eb.1)
@@ -238,14 +238,14 @@ module _ {H : Type 0} (stands : H → ℤ → ℤ → Type 0) (r : Rules) (v : C
           let y : Worker = record { counted = (worker_in s w).counted; sent = (worker_in s w).sent; refused = (worker_in s w).refused; taken = (worker_in s w).taken + 1 } in
           filter_push_no (λ (x : Push). x.worker == k) s.folded m is ∙ h.own k below ∙ ap (λ (z : Worker). take z.taken z.sent) (sym (other s y k apart))
 
-      each_after : (k : ℕ) (a : Sketch H) (b : Queue) → slice_get v.sketches k ≡ Some a → ((w ≡ k) × (lane' ≡ b)) ⊎ ((w ≢ k) × (slice_get v.lanes k ≡ Some b))
+      each_after : (k : ℕ) (a : PrivateView H) (b : Queue) → slice_get v.sketches k ≡ Some a → ((w ≡ k) × (lane' ≡ b)) ⊎ ((w ≢ k) × (slice_get v.lanes k ≡ Some b))
           → IsWorkerAt stands (terms_of r v.limits) k a b (get_or (after_take s).workers k fresh_worker)
       each_after k a b at (inl e) =
           let y : Worker = record { counted = (worker_in s w).counted; sent = (worker_in s w).sent; refused = (worker_in s w).refused; taken = (worker_in s w).taken + 1 } in
           let same_sketch : p ≡ a = let there : slice_get v.sketches w ≡ Some a = subst (λ (j : ℕ). slice_get v.sketches j ≡ Some a) (sym e.0) at in cc in
           subst (λ (j : ℕ). IsWorkerAt stands (terms_of r v.limits) j a b (get_or (set s.workers w y) j fresh_worker)) e.0
           (subst (λ (z : Worker). IsWorkerAt stands (terms_of r v.limits) w a b z) (sym (itself s y h.workers))
-          (subst (λ (z : Queue). IsWorkerAt stands (terms_of r v.limits) w a z y) e.1 (subst (λ (z : Sketch H). IsWorkerAt stands (terms_of r v.limits) w z lane' y) same_sketch one_taken)))
+          (subst (λ (z : Queue). IsWorkerAt stands (terms_of r v.limits) w a z y) e.1 (subst (λ (z : PrivateView H). IsWorkerAt stands (terms_of r v.limits) w z lane' y) same_sketch one_taken)))
       each_after k a b at (inr e) =
           let y : Worker = record { counted = (worker_in s w).counted; sent = (worker_in s w).sent; refused = (worker_in s w).refused; taken = (worker_in s w).taken + 1 } in
           subst (λ (z : Worker). IsWorkerAt stands (terms_of r v.limits) k a b z) (sym (other s y k e.0)) (h.each k a b at e.1)

@@ -14,7 +14,7 @@ use Rattle.push_history.specs.Front.{front_of}
 use Rattle.push_history.specs.LagRun.{Worker, lag_run, start, fresh_worker, updates_by}
 use Rattle.push_history.specs.Pushes.{IsNamed}
 use Rattle.push_history.specs.Updates.{HoldValues}
-use Rattle.push_rule.specs.Stands.{Sketch}
+use Rattle.push_rule.specs.Stands.{PrivateView}
 use Rattle.lag_core.specs.Lanes.{Queue, fresh_lane}
 use Rattle.lag_core.specs.Sights.{Sight, IsSightOf}
 use Rattle.lag_core.specs.Workers.{IsWorkerAt, IsFreshSketch, terms_of}
@@ -31,10 +31,10 @@ zeros r shape workers x cells front upto = record { cells = cells ∙ cells_none
 
 module _ {H : Type 0} (stands : H → ℤ → ℤ → Type 0) (r : Rules) (v : Core H) (shape : IsShape v.shape)
     (same_sketches : length v.sketches ≡ workers_of v) (same_lanes : length v.lanes ≡ workers_of v)
-    (sketches : (w : ℕ) (row : List Entry) (p : Sketch H) → slice_get v.limits.updates w ≡ Some row → slice_get v.sketches w ≡ Some p → IsFreshSketch stands r (size_of v.shape) v.limits.threshold row p)
+    (sketches : (w : ℕ) (row : List Entry) (p : PrivateView H) → slice_get v.limits.updates w ≡ Some row → slice_get v.sketches w ≡ Some p → IsFreshSketch stands r (size_of v.shape) v.limits.threshold row p)
     (lanes : (w : ℕ) (q : Queue) → slice_get v.lanes w ≡ Some q → q ≡ fresh_lane v.limits.capacity)
     (cells : All (λ row. All (λ u. u.cell < size_of v.shape) row) v.limits.updates) (values : All (λ row. HoldValues r row) v.limits.updates) where
-  worker_fresh : (w : ℕ) (row : List Entry) (p : Sketch H) (q : Queue) → slice_get v.limits.updates w ≡ Some row → slice_get v.sketches w ≡ Some p → slice_get v.lanes w ≡ Some q
+  worker_fresh : (w : ℕ) (row : List Entry) (p : PrivateView H) (q : Queue) → slice_get v.limits.updates w ≡ Some row → slice_get v.sketches w ≡ Some p → slice_get v.lanes w ≡ Some q
       → IsWorkerAt stands (terms_of r v.limits) w p q fresh_worker
   worker_fresh w row p q row_at sketch_at lane_at =
       let t = terms_of r v.limits in

@@ -19,7 +19,7 @@ use Rattle.push_history.proofs.Folded.{fold_shown}
 use Rattle.std.proofs.Math.Seq.{take-append_seam}
 use Rattle.std.proofs.lemmas.List.{take-append-drop, take-take}
 use Rattle.std.proofs.lemmas.List.Elements.{filter-append}
-use Rattle.push_rule.specs.Stands.{Sketch}
+use Rattle.push_rule.specs.Stands.{PrivateView}
 use Rattle.lag_core.specs.Lanes.{Queue}
 use Rattle.lag_core.specs.Lags.{Core, IsCoreAt, workers_of, sent_by_each, shown_messages}
 use Rattle.push_history.proofs.Notes.{map_range_same}
@@ -65,5 +65,5 @@ module _ {H : Type 0} (stands : H → ℤ → ℤ → Type 0) (r : Rules) (laws 
   cell_is cell below = ap (λ (l : List ℤ). get_or l cell (pos 0)) cells_are
       ∙ get_or-map-range_with_len (shown_of r (sent_by_each s) (front_of (workers_of v) (shown_messages s))) 0 (size_of v.shape) cell cell (pos 0) below (omega arith)
 
-  pub queued_is : (w : ℕ) (p : Sketch H) (q : Queue) → slice_get v.sketches w ≡ Some p → slice_get v.lanes w ≡ Some q → length q.messages ≡ length (worker_in s w).sent - (worker_in s w).taken
+  pub queued_is : (w : ℕ) (p : PrivateView H) (q : Queue) → slice_get v.sketches w ≡ Some p → slice_get v.lanes w ≡ Some q → length q.messages ≡ length (worker_in s w).sent - (worker_in s w).taken
   queued_is w p q at_p at_q = ap (λ (l : List Push). length l) (h.each w p q at_p at_q).queued ∙ length-drop (worker_in s w).taken (worker_in s w).sent

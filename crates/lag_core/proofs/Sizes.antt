@@ -17,7 +17,7 @@ use Rattle.push_history.specs.Shown.{told_cells}
 use Rattle.push_history.specs.Told.{told_of}
 use Rattle.push_history.proofs.Joins.{told_value}
 use Rattle.push_history.proofs.MoreMessages.{front_at}
-use Rattle.push_rule.specs.Stands.{Sketch}
+use Rattle.push_rule.specs.Stands.{PrivateView}
 use Rattle.lag_core.specs.Lanes.{Queue}
 use Rattle.lag_core.specs.Sights.{Sight, IsSightOf}
 use Rattle.lag_core.specs.Lags.{Core, IsCoreAt, workers_of}
@@ -59,7 +59,7 @@ module _ {H : Type 0} (stands : H → ℤ → ℤ → Type 0) (r : Rules) (v : C
       ap (λ (l : List ℕ). length l) (h.seen q front at).0 ∙ front_of_length (workers_of v) _ ∙ sym (front_length r v.shape (workers_of v) v.shown _ h.shown)
 
   -- few messages of a worker whose lane holds one were folded
-  pub few_folded : (w : ℕ) (p : Sketch H) (lane : Queue) → w < workers_of v → slice_get v.sketches w ≡ Some p → slice_get v.lanes w ≡ Some lane → get_or v.fold.front w 0 < 2 ^ 32
+  pub few_folded : (w : ℕ) (p : PrivateView H) (lane : Queue) → w < workers_of v → slice_get v.sketches w ≡ Some p → slice_get v.lanes w ≡ Some lane → get_or v.fold.front w 0 < 2 ^ 32
   few_folded w p lane below sketch_at lane_at =
       let its = h.each w p lane sketch_at lane_at in
       let x = worker_in s w in

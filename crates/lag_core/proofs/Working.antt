@@ -22,7 +22,7 @@ use Rattle.push_history.specs.Updates.{update_at}
 use Rattle.push_history.specs.Whole.{whole, whole_of}
 use Rattle.push_history.proofs.Growing.{told_all, refused_other}
 use Rattle.push_history.proofs.Joins.{told_value, whole_value}
-use Rattle.push_rule.specs.Stands.{Sketch, StandsFor}
+use Rattle.push_rule.specs.Stands.{PrivateView, StandsFor}
 use Rattle.push_rule.proofs.Standing.{whole_own}
 use Rattle.lag_core.specs.Lanes.{Queue}
 use Rattle.lag_core.specs.Workers.{CanCount, IsWorkerAt, distance_with}
@@ -113,7 +113,7 @@ filtered_more p S m = omega (arith, ap length (filter-append p S (m ∷ [])), le
 all_before : (n : ℕ) (S : List Push) → All (λ m. m.update < n) S → messages_before n S ≡ S
 all_before n S before = filter_kept (λ m. nat_lt m.update n) S (λ k d lt. let below = before k d lt in grind (arith, nat_tests))
 
-module _ {H : Type 0} (stands : H → ℤ → ℤ → Type 0) (t : Terms) (w : ℕ) (p q : Sketch H) (lane : Queue) (s : Worker)
+module _ {H : Type 0} (stands : H → ℤ → ℤ → Type 0) (t : Terms) (w : ℕ) (p q : PrivateView H) (lane : Queue) (s : Worker)
     (h : IsWorkerAt stands t w p lane s) (lt : s.counted < length (updates_by t w)) (can : CanCount t.rules (updates_by t w) q)
     (same_threshold : q.threshold ≡ p.threshold) (same_cells : length q.held ≡ length p.held) where
   own_cells : All (λ m. m.cell < length q.held) s.sent
@@ -235,7 +235,7 @@ full_waits : (f : Full) (s : Worker) → f ≡ Wait → meets_full f s ≡ (s, W
 full_waits f s is = ap (λ (x : Full). meets_full x s) is
 
 -- the update that the code counts: `u` with the value `v`
-module _ {H : Type 0} (stands : H → ℤ → ℤ → Type 0) (t : Terms) (w : ℕ) (p q : Sketch H) (lane : Queue) (s : Worker)
+module _ {H : Type 0} (stands : H → ℤ → ℤ → Type 0) (t : Terms) (w : ℕ) (p q : PrivateView H) (lane : Queue) (s : Worker)
     (h : IsWorkerAt stands t w p lane s) (lt : s.counted < length (updates_by t w))
     (u : Entry) (is : u ≡ update_at (updates_by t w) s.counted) (v : ℤ) (v_is : v ≡ u.value) where
   counted_is : p.counted ≡ s.counted
@@ -372,7 +372,7 @@ module _ {H : Type 0} (stands : H → ℤ → ℤ → Type 0) (t : Terms) (w : �
           )
 
 -- nothing is left
-module _ {H : Type 0} (stands : H → ℤ → ℤ → Type 0) (t : Terms) (w : ℕ) (p : Sketch H) (lane : Queue) (s : Worker) (h : IsWorkerAt stands t w p lane s) where
+module _ {H : Type 0} (stands : H → ℤ → ℤ → Type 0) (t : Terms) (w : ℕ) (p : PrivateView H) (lane : Queue) (s : Worker) (h : IsWorkerAt stands t w p lane s) where
   pub its_count : p.counted ≡ s.counted
   its_count = h.sketch.all_counted ∙ length-take-le s.counted (updates_by t w) h.within
 

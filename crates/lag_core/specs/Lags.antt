@@ -11,7 +11,7 @@ use Rattle.push_history.specs.declared.event.Reply.{Reply}
 use Rattle.push_history.specs.Front.{front_of, messages_of}
 use Rattle.push_history.specs.LagRun.{State, lag_step, lag_run, worker_in}
 use Rattle.push_history.specs.LiveHeavy.{live_keys, missed_keys}
-use Rattle.push_rule.specs.Stands.{Sketch}
+use Rattle.push_rule.specs.Stands.{PrivateView}
 use Rattle.lag_core.specs.Lanes.{Queue}
 use Rattle.lag_core.specs.Sights.{Sight, IsSightOf}
 use Rattle.lag_core.specs.Workers.{Limits, terms_of, IsWorkerAt}
@@ -21,7 +21,7 @@ use Rattle.lag_core.specs.Workers.{Limits, terms_of, IsWorkerAt}
 pub record Core (Held : Type 0) : Type 0 where
   pub shape : Shape
   pub limits : Limits
-  pub sketches : List (Sketch Held)
+  pub sketches : List (PrivateView Held)
   pub lanes : List Queue
   pub fold : Sight
   pub shown : Sight
@@ -49,9 +49,9 @@ pub record IsCoreAt {Held : Type 0} (stands : Held → ℤ → ℤ → Type 0) (
   pub workers : length s.workers ≡ workers_of v
   pub sketches : length v.sketches ≡ workers_of v
   pub lanes : length v.lanes ≡ workers_of v
-  pub each : (w : ℕ) (p : Sketch Held) (q : Queue) → slice_get v.sketches w ≡ Some p → slice_get v.lanes w ≡ Some q
+  pub each : (w : ℕ) (p : PrivateView Held) (q : Queue) → slice_get v.sketches w ≡ Some p → slice_get v.lanes w ≡ Some q
       → IsWorkerAt stands (terms_of r v.limits) w p q (worker_in s w)
-  pub cells : (w : ℕ) (p : Sketch Held) → slice_get v.sketches w ≡ Some p → length p.held ≡ size_of v.shape
+  pub cells : (w : ℕ) (p : PrivateView Held) → slice_get v.sketches w ≡ Some p → length p.held ≡ size_of v.shape
   pub fold : IsSightOf r v.shape (workers_of v) v.fold s.folded
   pub shown : IsSightOf r v.shape (workers_of v) v.shown (take s.shown s.folded)
   pub shown_within : s.shown ≤ length s.folded

@@ -10,7 +10,7 @@ use Rattle.push_history.specs.Pushes.{IsNamed, is_refused}
 use Rattle.push_history.specs.Told.{messages_before, told_of}
 use Rattle.push_history.specs.Whole.{whole_of}
 use Rattle.push_history.specs.Updates.{HoldValues}
-use Rattle.push_rule.specs.Stands.{Sketch, StandsFor}
+use Rattle.push_rule.specs.Stands.{PrivateView, StandsFor}
 use Rattle.lag_core.specs.Lanes.{Queue}
 
 -- what a run is of, besides the kind of sketch
@@ -28,7 +28,7 @@ abbrev pub distance_with : Rules → List Push → List Update → Update → �
 distance_with r messages before update = r.distance (told_of r update.cell messages) (r.join (whole_of r update.cell before) update.value)
 
 -- the sketch can count these updates: nothing is due, there is room for all, and each is of a cell and has a value of the kind
-pub record CanCount {Held : Type 0} (r : Rules) (updates : List Update) (p : Sketch Held) : Type 0 where
+pub record CanCount {Held : Type 0} (r : Rules) (updates : List Update) (p : PrivateView Held) : Type 0 where
   pub idle : p.due ≡ None
   pub room : p.room ≡ length updates
   pub small : length updates < 2 ^ 32
@@ -37,7 +37,7 @@ pub record CanCount {Held : Type 0} (r : Rules) (updates : List Update) (p : Ske
   pub values : HoldValues r updates
 
 -- the sketch and the lane of worker w are those of this state of a run
-pub record IsWorkerAt {Held : Type 0} (stands : Held → ℤ → ℤ → Type 0) (t : Terms) (w : ℕ) (p : Sketch Held) (lane : Queue) (s : Worker) : Type 0 where
+pub record IsWorkerAt {Held : Type 0} (stands : Held → ℤ → ℤ → Type 0) (t : Terms) (w : ℕ) (p : PrivateView Held) (lane : Queue) (s : Worker) : Type 0 where
   pub within : s.counted ≤ length (updates_by t w)
   pub sketch : StandsFor stands t.rules p (take s.counted (updates_by t w)) s.sent s.refused
   pub can_count : CanCount t.rules (updates_by t w) p
@@ -54,7 +54,7 @@ pub record IsWorkerAt {Held : Type 0} (stands : Held → ℤ → ℤ → Type 0)
   pub waiting : t.full ≡ Wait → s.refused ≡ []
 
 -- the sketch has counted nothing, and has so many cells and room for all of these updates
-pub record IsFreshSketch {Held : Type 0} (stands : Held → ℤ → ℤ → Type 0) (r : Rules) (cells its_threshold : ℕ) (updates : List Update) (p : Sketch Held) : Type 0 where
+pub record IsFreshSketch {Held : Type 0} (stands : Held → ℤ → ℤ → Type 0) (r : Rules) (cells its_threshold : ℕ) (updates : List Update) (p : PrivateView Held) : Type 0 where
   pub sketch : StandsFor stands r p [] [] []
   pub idle : p.due ≡ None
   pub held : length p.held ≡ cells

@@ -6,7 +6,7 @@ use mathlib.Core.List.{IsPrefix}
 use prog.Atomic.{either}
 use Rattle.logbook.specs.Pages.{Cell, cell, keeps, no_nib, step, Moves, Goes}
 use Rattle.hash_rows.specs.declared.shape.Push.{Push}
-use Rattle.live_view.specs.History.{IsKept, Adds}
+use Rattle.live_view.specs.HistoryRule.{IsKept, Adds}
 use Rattle.live_view.proofs.Prefixes.{prefix_whole}
 
 abbrev pub shown : List Push → List Push

@@ -1,12 +1,8 @@
 mod Lists
-mod Layouts
-mod Kept
-pub mod Live
-mod Copied
 mod Prefixes
 mod Folds
 mod Adding
 mod Turns
-mod Desks
+mod Writers
 mod Turning
 mod Settled

@@ -5,15 +5,15 @@ use Rattle.packet_key.specs.declared.key.FlowKey.{FlowKey}
 use Rattle.hash_rows.specs.declared.answer.Answer.{Answer}
 use Rattle.hash_rows.specs.declared.shape.Push.{Push}
 use Rattle.hash_rows.specs.Rules.{Rules}
-use Rattle.live_view.specs.declared.layout.Layout.{Layout}
-use Rattle.live_view.specs.Copies.{HasRoomFor, IsCopyOf, KeepsRest}
-use Rattle.live_view.specs.Fold.{Fit, state_after, most}
-use Rattle.live_view.specs.Sights.{Glass}
+use Rattle.live_state.specs.declared.layout.Layout.{Layout}
+use Rattle.live_state.specs.Copies.{HasRoomFor, IsCopyOf, KeepsRest}
+use Rattle.live_state.specs.Fold.{Fit, state_after, most}
+use Rattle.live_view.specs.Views.{ReaderView}
 use Rattle.live_view.proofs.Prefixes.{prefix_trans}
 use Rattle.live_view.proofs.Folds.{known_whole}
 
 -- what holds after each ask, of the view before, what was published and the answer before
-pub record Settling (r : Rules) (before : Glass) (published : List Push) (keys : List FlowKey) (start : Answer) (v : Glass) (into : Answer) : Type 0 where
+pub record Settling (r : Rules) (before : ReaderView) (published : List Push) (keys : List FlowKey) (start : Answer) (v : ReaderView) (into : Answer) : Type 0 where
   pub book : v.book ≡ before.book
   pub layout : v.layout ≡ before.layout
   pub room : HasRoomFor before.layout.workers keys into
@@ -36,8 +36,8 @@ rest_trans a b c h k = record {
   shown_room = k.shown_room ∙ h.shown_room;
 }
 
-module _ (r : Rules) (before : Glass) (published : List Push) (keys : List FlowKey) (start : Answer) where
-  pub asked_once : (v w : Glass) (a b : Answer) → v.book ≡ before.book → v.layout ≡ before.layout → IsPrefix before.known v.known → KeepsRest start a
+module _ (r : Rules) (before : ReaderView) (published : List Push) (keys : List FlowKey) (start : Answer) where
+  pub asked_once : (v w : ReaderView) (a b : Answer) → v.book ≡ before.book → v.layout ≡ before.layout → IsPrefix before.known v.known → KeepsRest start a
       → (w.book ≡ v.book) × (w.layout ≡ v.layout) → HasRoomFor v.layout.workers keys b → KeepsRest a b → w.told ≡ [] → IsPrefix v.known w.known
       → Fit r w.layout w.known → IsCopyOf r (state_after r w.layout w.known) keys b → IsPrefix published w.known → Settling r before published keys start w b
   asked_once v w a b book layout known rest pair room more none longer fit one whole =
@@ -54,5 +54,5 @@ module _ (r : Rules) (before : Glass) (published : List Push) (keys : List FlowK
         one = subst (λ l. IsCopyOf r (state_after r l w.known) keys b) same one;
       }
 
-  pub settled : (v : Glass) (a : Answer) → Settling r before published keys start v a → a.folded ≡ length published → length published < most → v.known ≡ published
+  pub settled : (v : ReaderView) (a : Answer) → Settling r before published keys start v a → a.folded ≡ length published → length published < most → v.known ≡ published
   settled v a h found short = known_whole r before.layout published v.known h.fit h.whole (sym h.one.folded ∙ found) short

@@ -10,19 +10,19 @@ use Rattle.hash_rows.specs.declared.shape.Push.{Push}
 use Rattle.hash_rows.specs.declared.shape.Shape.{Shape}
 use Rattle.hash_rows.specs.Rules.{Rules}
 use Rattle.hash_rows.specs.Shapes.{size_of}
-use Rattle.hash_rows.specs.Tables.{Figures, joined_at}
+use Rattle.hash_rows.specs.Tables.{TableView, joined_at}
 use Rattle.heavy_keys.specs.Noted.{noted}
 use Rattle.live_view.specs.declared.history.Entry.{Entry}
-use Rattle.live_view.specs.declared.layout.Layout.{Layout}
-use Rattle.live_view.specs.Fold.{fits, added, layout_of}
-use Rattle.live_view.specs.Tallies.{Tallied, counted, key_noted_in, table_noted}
-use Rattle.live_view.specs.Sights.{Sight, Page}
+use Rattle.live_state.specs.declared.layout.Layout.{Layout}
+use Rattle.live_state.specs.Fold.{fits, added, layout_of}
+use Rattle.live_state.specs.Tallies.{Tallied, counted, key_noted_in, table_noted}
+use Rattle.live_view.specs.Views.{History, PublishedView}
 use Rattle.live_view.specs.Rule.{turned}
 
-abbrev pub page_of : Shape → List ℤ → Tallied → Sight → Page
-page_of shape cells t sight = record {
+abbrev pub page_of : Shape → List ℤ → Tallied → History → PublishedView
+page_of shape cells t history = record {
   figures = record { table = record { shape = shape; cells = cells }; front = t.front; upto = t.upto; folded = t.folded; heavy = t.heavy };
-  sight = sight;
+  history = history;
 }
 
 fits_with : (r : Rules) (l : Layout) (m : Push) → m.worker < l.workers → m.cell < size_of l.shape → r.is_value m.amount ≡ true → fits r l m ≡ true
@@ -31,28 +31,28 @@ fits_with r l m worker cell value =
     let two : nat_lt m.cell (size_of l.shape) ≡ true = grind (arith, nat_tests) in
     λ i. one i && (two i && value i)
 
-pub noted_keyed : (r : Rules) (table : Figures) (t u : Tallied) (key : FlowKey) (estimate : ℤ) → r.keyed ≡ true → estimate ≡ r.estimate table.shape table.cells key
+pub noted_keyed : (r : Rules) (table : TableView) (t u : Tallied) (key : FlowKey) (estimate : ℤ) → r.keyed ≡ true → estimate ≡ r.estimate table.shape table.cells key
     → u ≡ key_noted_in t key estimate → u ≡ table_noted r table t key
 noted_keyed r table t u key estimate keyed is now =
     let found = noted t.heavy key (r.estimate table.shape table.cells key) in
     now ∙ (ap (key_noted_in t key) is ∙ ap (λ b. record { front = t.front; upto = t.upto; folded = t.folded; heavy = cond b found t.heavy }) (sym keyed))
 
-pub noted_not : (r : Rules) (table : Figures) (t : Tallied) (key : FlowKey) → r.keyed ≡ false → t ≡ table_noted r table t key
+pub noted_not : (r : Rules) (table : TableView) (t : Tallied) (key : FlowKey) → r.keyed ≡ false → t ≡ table_noted r table t key
 noted_not r table t key keyed =
     let found = noted t.heavy key (r.estimate table.shape table.cells key) in
     ap (λ b. record { front = t.front; upto = t.upto; folded = t.folded; heavy = cond b found t.heavy }) (sym keyed)
 
-pub turned_as : (r : Rules) (shape : Shape) (cells after : List ℤ) (t u : Tallied) (sight stamp : Sight) (e : Entry)
+pub turned_as : (r : Rules) (shape : Shape) (cells after : List ℤ) (t u : Tallied) (history stamp : History) (e : Entry)
     → e.message.worker < length t.front → e.message.cell < size_of shape → r.is_value e.message.amount ≡ true
     → after ≡ joined_at r.join cells e.message.cell e.message.amount
     → u ≡ table_noted r (record { shape = shape; cells = after }) (counted t e.message.worker e.message.update) e.message.key → stamp ≡ e.stamp
-    → page_of shape after u stamp ≡ turned r (page_of shape cells t sight) e
-turned_as r shape cells after t u sight stamp e worker cell value joined is taken =
+    → page_of shape after u stamp ≡ turned r (page_of shape cells t history) e
+turned_as r shape cells after t u history stamp e worker cell value joined is taken =
     let m = e.message in
-    let figures = (page_of shape cells t sight).figures in
+    let figures = (page_of shape cells t history).figures in
     let fit = fits_with r (layout_of figures) m worker cell value in
     let tally = is ∙ ap (λ cs. table_noted r (record { shape = shape; cells = cs }) (counted t m.worker m.update) m.key) joined in
-    (λ i. page_of shape (joined i) (tally i) (taken i)) ∙ ap (λ b. record { figures = cond b (added r figures m) figures; sight = e.stamp }) (sym fit)
+    (λ i. page_of shape (joined i) (tally i) (taken i)) ∙ ap (λ b. record { figures = cond b (added r figures m) figures; history = e.stamp }) (sym fit)
 
 -- the cells with a joined value put into its place, read and written as numbers of 64 bits with sign
 pub joined_cells : (join : ℤ → ℤ → ℤ) (items after : List ℤ) (cell : ℕ) (got result amount : ℤ) → slice_get items cell ≡ Some got

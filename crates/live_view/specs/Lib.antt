@@ -1,8 +1,4 @@
-pub mod Fold
-pub mod Shows
-pub mod Tallies
-pub mod Copies
-pub mod Sights
-pub mod History
+pub mod Views
+pub mod HistoryRule
 pub mod Rule
-pub mod Desks
+pub mod Writers

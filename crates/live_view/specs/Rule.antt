@@ -5,10 +5,10 @@ use mathlib.Core.Option.{some}
 use lib.ListN.{get_elem?}
 use Rattle.logbook.specs.Pages.{Book}
 use Rattle.hash_rows.specs.Rules.{Rules}
-use Rattle.live_view.specs.Sights.{Sight, Page, longer}
-use Rattle.live_view.specs.Fold.{IsFoldOf, absorbed, layout_of}
+use Rattle.live_view.specs.Views.{History, PublishedView, longer}
+use Rattle.live_state.specs.Fold.{IsFoldOf, absorbed, layout_of}
 use Rattle.hash_rows.specs.declared.shape.Push.{Push}
-use Rattle.live_view.specs.declared.layout.Layout.{Layout}
+use Rattle.live_state.specs.declared.layout.Layout.{Layout}
 use Rattle.live_view.specs.declared.history.Entry.{Entry}
 use Rattle.live_view.specs.declared.rule.Notes.{Notes}
 use Rattle.live_view.specs.declared.rule.Pair.{Pair}
@@ -23,39 +23,39 @@ name_of b = record { number = b.number; log_name = b.log_name; cells_name = b.ce
 abbrev pub paired : Book → Layout → Pair
 paired b z = record { book = name_of b; layout = z }
 
-abbrev pub pair_of : Page → Pair
-pair_of p = paired p.sight.book (layout_of p.figures)
+abbrev pub pair_of : PublishedView → Pair
+pair_of p = paired p.history.book (layout_of p.figures)
 
 -- the known list begins the history of the page, and the pair is its own
-pub record Knows (p : Page) (v : Notes) : Type 0 where
-  pub known : IsPrefix v.known p.sight.log
+pub record Knows (p : PublishedView) (v : Notes) : Type 0 where
+  pub known : IsPrefix v.known p.history.log
   pub pair : IfSome v.pair (λ z. z ≡ pair_of p)
 
 -- the state is the fold of its history, which each seat knows a beginning of
-pub record IsPublished (r : Rules) (p : Page) (views : List Notes) : Type 0 where
-  pub sums : IsFoldOf r p.figures p.sight.log
+pub record IsPublished (r : Rules) (p : PublishedView) (views : List Notes) : Type 0 where
+  pub sums : IsFoldOf r p.figures p.history.log
   pub known : (seat : ℕ) (v : Notes) → get_elem? views seat ≡ some v → Knows p v
 
 -- the whole history of the page is known afterwards
-pub record Entered (r : Rules) (v : Notes) (p : Page) (w : Notes) : Type 0 where
-  pub sums : IsFoldOf r p.figures p.sight.log
+pub record Entered (r : Rules) (v : Notes) (p : PublishedView) (w : Notes) : Type 0 where
+  pub sums : IsFoldOf r p.figures p.history.log
   pub before : Knows p v
-  pub seat : w ≡ notes p.sight.log v.pair
+  pub seat : w ≡ notes p.history.log v.pair
 
 -- what an entry makes of a page
-abbrev pub turned : Rules → Page → Entry → Page
-turned r p e = record { figures = absorbed r p.figures e.message; sight = e.stamp }
+abbrev pub turned : Rules → PublishedView → Entry → PublishedView
+turned r p e = record { figures = absorbed r p.figures e.message; history = e.stamp }
 
 abbrev pub messages : List Entry → List Push
 messages es = map (λ (e : Entry). e.message) es
 
--- each entry has the sight of one message more
-abbrev pub IsChain : Sight → List Entry → Type 0
+-- each entry has the history of one message more
+abbrev pub IsChain : History → List Entry → Type 0
 IsChain s [] = Unit {0}
 IsChain s (e ∷ es) = (e.stamp ≡ longer s e.message) × IsChain e.stamp es
 
--- the sight, with a message that stands in the history alone
-abbrev pub late : Option Push → Sight → Sight
+-- the history, with a message that stands in the history alone
+abbrev pub late : Option Push → History → History
 late None s = s
 late (Some m) s = longer s m
 

@@ -1,21 +1,21 @@
 //! The history of a published pair. It exists in the proofs alone, but for its length.
 ghost use Rattle.std.specs.Prelude.{◌≡◌, ◌⊎◌, ◌+◌, ◌<◌, ◌≤◌, ◌∷◌, ◌++◌, [], length, IfSome, Some, None, MatchBool};
 ghost use mathlib.Core.List.{IsPrefix};
-ghost use Rattle.live_view.specs.History.{head_of};
-ghost use Rattle.live_view.specs.Sights.{longer};
-ghost use Rattle.live_view.specs.Fold.{most};
+ghost use Rattle.live_view.specs.HistoryRule.{head_of};
+ghost use Rattle.live_view.specs.Views.{longer};
+ghost use Rattle.live_state.specs.Fold.{most};
 
 use hash_rows::Push;
 use logbook::{Gain, Offer, Plain, Play, Rule, Seen, Start, Word};
 use std::marker::Model;
 
 /// The rule of the book.
-pub struct History;
+pub struct HistoryRule;
 
-impl Rule<Push, u64> for History {
+impl Rule<Push, u64> for HistoryRule {
     ghost use Rattle.std.specs.Prelude.{[]};
     ghost use base.Fml.{ftrue};
-    ghost use Rattle.live_view.specs.History.{IsKept};
+    ghost use Rattle.live_view.specs.HistoryRule.{IsKept};
 
     ghost holds = { λ cells log. IsKept cells log };
 
@@ -43,7 +43,7 @@ impl Gain<Push, u64> for Nothing {
 pub struct Add;
 
 impl Play<Push, u64> for Add {
-    ghost use Rattle.live_view.specs.History.{Adds};
+    ghost use Rattle.live_view.specs.HistoryRule.{Adds};
 
     ghost then = { Adds };
 }
@@ -59,30 +59,30 @@ impl Plain<Push, Push, u64> for Add {
 
 /// A beginning of the history that was seen. It has no bytes.
 #[derive(Drop)]
-pub struct Stamp {
-    seen: Seen<Push, u64, History>,
+pub struct HistoryPrefix {
+    seen: Seen<Push, u64, HistoryRule>,
 }
 
-impl Model for Stamp {
-    ghost use Rattle.live_view.specs.Sights.{Sight};
+impl Model for HistoryPrefix {
+    ghost use Rattle.live_view.specs.Views.{History};
 
-    ghost Value = { Sight };
+    ghost Value = { History };
 
     ghost view = { λ s. record { book = s.seen.book; log = s.seen.log } };
 }
 
-impl Stamp {
+impl HistoryPrefix {
     /// A copy.
-    pub fn again(&self) -> Stamp
+    pub fn again(&self) -> HistoryPrefix
         ensures { result ≡ self.now }
     {
-        Stamp {
+        HistoryPrefix {
             seen: self.seen.again(),
         }
     }
 
     /// The shorter of two beginnings of one history begins the longer.
-    pub fn begins(&self, other: &Stamp)
+    pub fn begins(&self, other: &HistoryPrefix)
         requires book { other.now.book ≡ self.now.book }
         requires shorter { length self.now.log ≤ length other.now.log }
         ensures { IsPrefix self.now.log other.now.log }
@@ -97,28 +97,28 @@ impl Stamp {
 pub struct Entry {
     pub message: Push,
     /// The history up to this message.
-    pub stamp: Stamp,
+    pub stamp: HistoryPrefix,
 }
 
 /// The word of the history, which is its length, and all that was seen.
 #[derive(Drop)]
-pub struct Clerk {
-    pub head: Word<Push, u64, History>,
-    pub stamp: Stamp,
+pub struct HistoryWriter {
+    pub head: Word<Push, u64, HistoryRule>,
+    pub stamp: HistoryPrefix,
     pub count: u64,
     /// A message that stands in the history, and was refused by the pair.
     pub stuck: Option<Push>,
     pub ghost head_is: { head ≡ head_of stamp.book },
 }
 
-impl Clerk {
-    pub fn open() -> Clerk
+impl HistoryWriter {
+    pub fn open() -> HistoryWriter
         ensures { (result.stamp.log ≡ []) × (result.count ≡ 0) × (result.stuck ≡ None) }
     {
         let (seen, mut first, _second) = Seen::open(Start::alone(), 0, 0);
-        Clerk {
+        HistoryWriter {
             head: Word::tracked(0, &mut first),
-            stamp: Stamp { seen },
+            stamp: HistoryPrefix { seen },
             count: 0,
             stuck: None,
         }
@@ -152,18 +152,18 @@ impl Clerk {
 
 // The history with one message more. It is never refused, since nobody else has the word, but no clause says so.
 fn extended(
-    head: &Word<Push, u64, History>,
-    stamp: &Stamp,
+    head: &Word<Push, u64, HistoryRule>,
+    stamp: &HistoryPrefix,
     count: u64,
     message: Push,
-) -> Option<Stamp>
+) -> Option<HistoryPrefix>
     requires head { head.now ≡ head_of stamp.now.book }
     requires count { count ≡ length stamp.now.log }
     requires room { count < most }
     ensures { IfSome result (λ s. s ≡ longer stamp.now message) }
 {
     let mut seen = stamp.seen.again();
-    let mut offer: Offer<Push, u64, History, Nothing> = seen.plain::<Nothing, Push, Add>(&message);
+    let mut offer: Offer<Push, u64, HistoryRule, Nothing> = seen.plain::<Nothing, Push, Add>(&message);
     let mut pen = seen.no_pen();
     let found = head.compare_exchange::<Add, Nothing>(
         count,
@@ -173,7 +173,7 @@ fn extended(
         &mut pen,
     );
     if found == count {
-        Some(Stamp { seen })
+        Some(HistoryPrefix { seen })
     } else {
         None
     }

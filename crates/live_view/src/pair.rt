@@ -1,10 +1,10 @@
 //! Makes a published pair.
 ghost use Rattle.std.specs.Prelude.{◌≡◌, ◌<◌, ◌≤◌, [], length, IfOk, All};
 ghost use Rattle.hash_rows.specs.Shapes.{IsShape};
-ghost use Rattle.live_view.specs.Sights.{layout_for};
+ghost use Rattle.live_view.specs.Views.{layout_for};
 
-use crate::history::Clerk;
-use crate::layout::Layout;
+use crate::history::HistoryWriter;
+use live_state::Layout;
 use crate::published::Published;
 use crate::view::View;
 use crate::writer::ViewWriter;
@@ -42,13 +42,13 @@ pub fn make_views<K: Kind, R: Wait>(
         heavy,
         least,
     };
-    let clerk = Clerk::open();
-    let first = Published::new(alloc, &layout, clerk.stamp.again())?;
-    let second = Published::new(alloc, &layout, clerk.stamp.again())?;
+    let history_writer = HistoryWriter::open();
+    let first = Published::new(alloc, &layout, history_writer.stamp.again())?;
+    let second = Published::new(alloc, &layout, history_writer.stamp.again())?;
     let Ok(writer) = Writer::new(alloc, first, second, readers as usize + 1) else {
         return Err(NoMemory);
     };
-    let mut writer = ViewWriter::over(rt, writer, layout, clerk);
+    let mut writer = ViewWriter::over(rt, writer, layout, history_writer);
     for _ in 0..readers {
         let view = writer.view(rt);
         views.push(view);

@@ -2,12 +2,12 @@
 ghost use Rattle.std.specs.Prelude.{◌≡◌, ◌≤◌, length, IfOk};
 ghost use Rattle.hash_rows.specs.Rules.{AreValues};
 ghost use Rattle.hash_rows.specs.Shapes.{IsShape, size_of};
-ghost use Rattle.live_view.specs.Fold.{fresh_state};
+ghost use Rattle.live_state.specs.Fold.{fresh_state};
 ghost use Rattle.live_view.specs.Rule.{turned};
 
-use crate::history::{Entry, Stamp};
-use crate::layout::Layout;
-use crate::tally::Tally;
+use crate::history::{Entry, HistoryPrefix};
+use live_state::Layout;
+use live_state::Tally;
 use flow_base::NoMemory;
 use hash_rows::{Cells, Kind, Shape};
 use left_right::Absorb;
@@ -22,7 +22,7 @@ pub struct Published<K: Kind> {
     shape: Shape,
     cells: Cells,
     tally: Tally,
-    stamp: Stamp,
+    stamp: HistoryPrefix,
     kind: PhantomData<K>,
 }
 
@@ -30,22 +30,22 @@ impl<K: Kind> Model for Published<K> {
     ghost use Rattle.std.specs.Prelude.{◌≡◌, length};
     ghost use Rattle.hash_rows.specs.Rules.{AreValues};
     ghost use Rattle.hash_rows.specs.Shapes.{IsShape, size_of};
-    ghost use Rattle.live_view.specs.Sights.{Page};
+    ghost use Rattle.live_view.specs.Views.{PublishedView};
 
-    ghost Value = { Page };
+    ghost Value = { PublishedView };
 
-    ghost view = { λ p. record { figures = record { table = record { shape = p.shape; cells = p.cells.items }; front = p.tally.front; upto = p.tally.upto; folded = p.tally.folded; heavy = p.tally.heavy }; sight = p.stamp } };
+    ghost view = { λ p. record { figures = record { table = record { shape = p.shape; cells = p.cells.items }; front = p.tally.front; upto = p.tally.upto; folded = p.tally.folded; heavy = p.tally.heavy }; history = p.stamp } };
 
     ghost invariant = { λ p. IsShape p.shape × (length p.cells.items ≡ size_of p.shape) × AreValues K.rules p.cells.items };
 }
 
 impl<K: Kind> Published<K> {
     /// The state with no message.
-    pub fn new(alloc: Global, layout: &Layout, stamp: Stamp) -> Result<Published<K>, NoMemory>
+    pub fn new(alloc: Global, layout: &Layout, stamp: HistoryPrefix) -> Result<Published<K>, NoMemory>
         requires shape { IsShape layout.now.shape }
         requires heavy { (1 ≤ layout.now.heavy) × (layout.now.heavy ≤ 1024) }
         ensures figures { IfOk result (λ page. page.figures ≡ fresh_state layout.now) }
-        ensures sight { IfOk result (λ page. page.sight ≡ stamp) }
+        ensures history { IfOk result (λ page. page.history ≡ stamp) }
     {
         let cells = Listed::filled(alloc, layout.shape.rows * layout.shape.columns, 0)?;
         let tally = Tally::new(alloc, layout.workers, layout.heavy, layout.least)?;
@@ -82,8 +82,8 @@ impl<K: Kind> Published<K> {
         K::estimate(&self.shape, self.cells.as_slice(), key)
     }
 
-    pub fn stamp(&self) -> &Stamp
-        ensures { result.now ≡ self.now.sight }
+    pub fn stamp(&self) -> &HistoryPrefix
+        ensures { result.now ≡ self.now.history }
     {
         &self.stamp
     }

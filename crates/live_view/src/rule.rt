@@ -1,5 +1,5 @@
 //! The rule of a published pair.
-use crate::layout::Layout;
+use live_state::Layout;
 use crate::published::Published;
 use atomic_table::{Join, Split};
 use crossbeam_utils::rule::{Outcome, Protocol};
@@ -52,7 +52,7 @@ impl<K: Kind> Outcome<Published<K>, Notes> for Publishes {
     ghost use Rattle.std.specs.Prelude.{◌≡◌, Some};
     ghost use Rattle.live_view.specs.Rule.{notes, pair_of};
 
-    ghost then = { λ v x y w. w ≡ notes y.sight.log (Some (pair_of y)) };
+    ghost then = { λ v x y w. w ≡ notes y.history.log (Some (pair_of y)) };
 }
 
 /// A told seat knows what the writer knows.

@@ -1,7 +1,7 @@
 //! What a run does at its end.
 ghost use Rattle.std.specs.Prelude.{◌≡◌, []};
-ghost use Rattle.live_view.specs.Copies.{HasRoomFor, IsCopyOf, KeepsRest};
-ghost use Rattle.live_view.specs.Fold.{state_after};
+ghost use Rattle.live_state.specs.Copies.{HasRoomFor, IsCopyOf, KeepsRest};
+ghost use Rattle.live_state.specs.Fold.{state_after};
 ghost use mathlib.Core.List.{IsPrefix};
 
 use crate::view::View;

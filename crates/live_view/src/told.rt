@@ -2,21 +2,21 @@
 ghost use Rattle.std.specs.Prelude.{◌≡◌, ◌⊎◌, length};
 ghost use mathlib.Core.List.{IsPrefix};
 
-use crate::history::Stamp;
+use crate::history::HistoryPrefix;
 use std::marker::Model;
 
 /// The list that was published when it was made, and its length.
 #[derive(Drop)]
 pub struct Told {
-    stamp: Stamp,
+    stamp: HistoryPrefix,
     folded: u64,
 }
 
 impl Model for Told {
     ghost use Rattle.std.specs.Prelude.{◌≡◌, length};
-    ghost use Rattle.live_view.specs.Sights.{Sight};
+    ghost use Rattle.live_view.specs.Views.{History};
 
-    ghost Value = { Sight };
+    ghost Value = { History };
 
     ghost view = { λ t. t.stamp };
 
@@ -24,14 +24,14 @@ impl Model for Told {
 }
 
 impl Told {
-    pub(crate) fn of(stamp: Stamp, folded: u64) -> Told
+    pub(crate) fn of(stamp: HistoryPrefix, folded: u64) -> Told
         requires { folded ≡ length stamp.log }
         ensures { result ≡ stamp }
     {
         Told { stamp, folded }
     }
 
-    pub(crate) fn stamp(&self) -> &Stamp
+    pub(crate) fn stamp(&self) -> &HistoryPrefix
         ensures { result.now ≡ self.now }
     {
         &self.stamp

@@ -1,13 +1,13 @@
 //! The readers of a published pair.
 ghost use Rattle.std.specs.Prelude.{◌≡◌, ◌≤◌, ◌⊎◌, [], length, Some, MatchBool};
 ghost use Rattle.left_right.specs.Sides.{view};
-ghost use Rattle.live_view.specs.Copies.{HasRoomFor, IsCopyOf, KeepsRest};
-ghost use Rattle.live_view.specs.Fold.{Fit, IsFoldOf, state_after};
+ghost use Rattle.live_state.specs.Copies.{HasRoomFor, IsCopyOf, KeepsRest};
+ghost use Rattle.live_state.specs.Fold.{Fit, IsFoldOf, state_after};
 ghost use Rattle.live_view.specs.Rule.{notes, paired, pair_of};
 ghost use mathlib.Core.List.{IsPrefix};
 
 use crate::copies::copy;
-use crate::layout::Layout;
+use live_state::Layout;
 use crate::published::Published;
 use crate::rule::{Enters, Law, Notes};
 use crate::told::Told;
@@ -39,10 +39,10 @@ where
 {
     ghost use Rattle.std.specs.Prelude.{◌≡◌, [], Some, IsSome, IfSome, option_map, unwrap_or};
     ghost use Rattle.left_right.specs.Sides as sides;
-    ghost use Rattle.live_view.specs.Sights.{Glass};
+    ghost use Rattle.live_view.specs.Views.{ReaderView};
     ghost use Rattle.live_view.specs.Rule.{paired, no_notes};
 
-    ghost Value = { Glass };
+    ghost Value = { ReaderView };
 
     ghost view = { λ v. record { book = v.told.book; layout = v.layout; known = (unwrap_or (option_map (λ r. sides.view r.place) v.reader) no_notes).known; told = v.told.log } };
 
@@ -58,13 +58,13 @@ fn taken<K: Kind>(
     into: &mut Answer,
 ) -> bool
     requires pair { paired told.now.book layout ≡ pair_of page.now }
-    requires sums { IsFoldOf K.rules page.now.figures page.now.sight.log }
+    requires sums { IsFoldOf K.rules page.now.figures page.now.history.log }
     requires room { HasRoomFor layout.workers keys.now into.old }
     ensures room { HasRoomFor layout.workers keys.now into.new }
     ensures rest { KeepsRest into.old into.new }
     ensures taken { MatchBool result
-        (IsPrefix told.now.log page.now.sight.log × Fit K.rules layout page.now.sight.log
-        × IsCopyOf K.rules (state_after K.rules layout page.now.sight.log) keys.now into.new)
+        (IsPrefix told.now.log page.now.history.log × Fit K.rules layout page.now.history.log
+        × IsCopyOf K.rules (state_after K.rules layout page.now.history.log) keys.now into.new)
         (into.new ≡ into.old) }
 {
     if page.tally().folded() < told.folded() {

@@ -2,14 +2,14 @@
 ghost use Rattle.std.specs.Prelude.{◌≡◌, ◌+◌, ◌<◌, [], ◌∷◌, ◌++◌, length, drop, fold, true, Some, None, IfOk, IfSome, MatchResult, MatchBool};
 ghost use Rattle.std.specs.Arc.{arc_value};
 ghost use Rattle.left_right.specs.Sides.{view};
-ghost use Rattle.live_view.specs.Fold.{fits, absorbed, fresh_state, layout_of, most, state_after, Fit, IsFoldOf};
+ghost use Rattle.live_state.specs.Fold.{fits, absorbed, fresh_state, layout_of, most, state_after, Fit, IsFoldOf};
 ghost use Rattle.live_view.specs.Rule.{notes, pair_of, turned, messages, IsChain};
 
-use crate::history::{Clerk, Entry};
-use crate::layout::Layout;
+use crate::history::{HistoryWriter, Entry};
+use live_state::Layout;
 use crate::published::Published;
 use crate::rule::{Law, Notes, Pairs, Publishes, Tells};
-use crate::state::State;
+use live_state::State;
 use crate::told::Told;
 use crate::view::View;
 use core::mem::replace_with;
@@ -30,7 +30,7 @@ where
 {
     writer: Writer<Published<K>, Entry, Notes, Law>,
     layout: Layout,
-    clerk: Clerk,
+    history_writer: HistoryWriter,
 }
 
 impl<K: Kind> Model for ViewWriter<K>
@@ -40,16 +40,16 @@ where
 {
     ghost use Rattle.std.specs.Prelude.{◌≡◌, drop};
     ghost use Rattle.left_right.specs.Sides as sides;
-    ghost use Rattle.live_view.specs.Sights.{Desk};
-    ghost use Rattle.live_view.specs.Fold.{layout_of};
+    ghost use Rattle.live_view.specs.Views.{WriterView};
+    ghost use Rattle.live_state.specs.Fold.{layout_of};
     ghost use Rattle.live_view.specs.Rule.{messages};
-    ghost use Rattle.live_view.specs.Desks.{IsWriter};
+    ghost use Rattle.live_view.specs.Writers.{IsWriter};
 
-    ghost Value = { Desk };
+    ghost Value = { WriterView };
 
-    ghost view = { λ w. record { book = w.writer.desk.shown.value.sight.book; layout = layout_of w.writer.desk.shown.value.figures; published = (sides.view w.writer.desk.place).known; pending = messages (drop w.writer.behind w.writer.log.items) } };
+    ghost view = { λ w. record { book = w.writer.desk.shown.value.history.book; layout = layout_of w.writer.desk.shown.value.figures; published = (sides.view w.writer.desk.place).known; pending = messages (drop w.writer.behind w.writer.log.items) } };
 
-    ghost invariant = { λ w. IsWriter K.rules w.writer.desk.shown.value (sides.view w.writer.desk.place) (drop w.writer.behind w.writer.log.items) w.clerk × (w.layout ≡ layout_of w.writer.desk.shown.value.figures) };
+    ghost invariant = { λ w. IsWriter K.rules w.writer.desk.shown.value (sides.view w.writer.desk.place) (drop w.writer.behind w.writer.log.items) w.history_writer × (w.layout ≡ layout_of w.writer.desk.shown.value.figures) };
 }
 
 fn reader_of<K: Kind, R: Wait>(
@@ -73,8 +73,8 @@ fn publish_now<K: Kind, R: Wait>(
     rt: &R,
 ) -> Writer<Published<K>, Entry, Notes, Law>
     requires fit { Fit K.rules (layout_of writer.desk.shown.value.figures) (messages (drop writer.behind writer.log.items)) }
-    requires chain { IsChain writer.desk.shown.value.sight (drop writer.behind writer.log.items) }
-    ensures seat { view result.desk.place ≡ notes result.desk.shown.value.sight.log (Some (pair_of result.desk.shown.value)) }
+    requires chain { IsChain writer.desk.shown.value.history (drop writer.behind writer.log.items) }
+    ensures seat { view result.desk.place ≡ notes result.desk.shown.value.history.log (Some (pair_of result.desk.shown.value)) }
     ensures shown { result.desk.shown.value ≡ fold (turned K.rules) writer.desk.shown.value (drop writer.behind writer.log.items) }
     ensures pending { drop result.behind result.log.items ≡ [] }
 {
@@ -83,8 +83,8 @@ fn publish_now<K: Kind, R: Wait>(
 
 fn publish_in<K: Kind, R: Wait>(writer: &mut Writer<Published<K>, Entry, Notes, Law>, rt: &R)
     requires fit { Fit K.rules (layout_of writer.old.desk.shown.value.figures) (messages (drop writer.old.behind writer.old.log.items)) }
-    requires chain { IsChain writer.old.desk.shown.value.sight (drop writer.old.behind writer.old.log.items) }
-    ensures seat { view writer.new.desk.place ≡ notes writer.new.desk.shown.value.sight.log (Some (pair_of writer.new.desk.shown.value)) }
+    requires chain { IsChain writer.old.desk.shown.value.history (drop writer.old.behind writer.old.log.items) }
+    ensures seat { view writer.new.desk.place ≡ notes writer.new.desk.shown.value.history.log (Some (pair_of writer.new.desk.shown.value)) }
     ensures shown { writer.new.desk.shown.value ≡ fold (turned K.rules) writer.old.desk.shown.value (drop writer.old.behind writer.old.log.items) }
     ensures pending { drop writer.new.behind writer.new.log.items ≡ [] }
 {
@@ -92,8 +92,8 @@ fn publish_in<K: Kind, R: Wait>(writer: &mut Writer<Published<K>, Entry, Notes, 
         writer,
         rt,
         |writer: Writer<Published<K>, Entry, Notes, Law>, rt: &R|
-            requires { Fit K.rules (layout_of writer.desk.shown.value.figures) (messages (drop writer.behind writer.log.items)) × IsChain writer.desk.shown.value.sight (drop writer.behind writer.log.items) }
-            ensures { (view result.0.desk.place ≡ notes result.0.desk.shown.value.sight.log (Some (pair_of result.0.desk.shown.value))) × (result.0.desk.shown.value ≡ fold (turned K.rules) writer.desk.shown.value (drop writer.behind writer.log.items)) × (drop result.0.behind result.0.log.items ≡ []) }
+            requires { Fit K.rules (layout_of writer.desk.shown.value.figures) (messages (drop writer.behind writer.log.items)) × IsChain writer.desk.shown.value.history (drop writer.behind writer.log.items) }
+            ensures { (view result.0.desk.place ≡ notes result.0.desk.shown.value.history.log (Some (pair_of result.0.desk.shown.value))) × (result.0.desk.shown.value ≡ fold (turned K.rules) writer.desk.shown.value (drop writer.behind writer.log.items)) × (drop result.0.behind result.0.log.items ≡ []) }
         { (publish_now(writer, rt), ()) },
     )
 }
@@ -104,20 +104,20 @@ impl<K: Kind> ViewWriter<K> {
         rt: &R,
         writer: Writer<Published<K>, Entry, Notes, Law>,
         layout: Layout,
-        clerk: Clerk,
+        history_writer: HistoryWriter,
     ) -> ViewWriter<K>
         requires layout { layout ≡ layout_of writer.desk.shown.value.figures }
         requires none { drop writer.behind writer.log.items ≡ [] }
         requires zero { IsFoldOf K.rules writer.desk.shown.value.figures [] }
-        requires clerk { (clerk.stamp ≡ writer.desk.shown.value.sight) × (clerk.stamp.log ≡ []) × (clerk.count ≡ 0) × (clerk.stuck ≡ None) }
-        ensures book { result.book ≡ clerk.stamp.book }
+        requires history_writer { (history_writer.stamp ≡ writer.desk.shown.value.history) × (history_writer.stamp.log ≡ []) × (history_writer.count ≡ 0) × (history_writer.stuck ≡ None) }
+        ensures book { result.book ≡ history_writer.stamp.book }
         ensures layout { result.layout ≡ layout }
         ensures empty { (result.published ≡ []) × (result.pending ≡ []) }
     {
         ViewWriter {
             writer: publish_now(writer, rt),
             layout,
-            clerk,
+            history_writer,
         }
     }
 
@@ -127,18 +127,18 @@ impl<K: Kind> ViewWriter<K> {
         ensures same { (self.new.book ≡ self.old.book) × (self.new.layout ≡ self.old.layout) × (self.new.published ≡ self.old.published) }
         ensures pending { MatchResult result (λ _. self.new.pending ≡ self.old.pending ++ message ∷ []) (λ _. self.new.pending ≡ self.old.pending) }
     {
-        if !self.clerk.ready(message) {
+        if !self.history_writer.ready(message) {
             return Err(NoMemory);
         }
         let entry = Entry {
             message,
-            stamp: self.clerk.stamp.again(),
+            stamp: self.history_writer.stamp.again(),
         };
         match self.writer.append(entry) {
             Ok(()) => (),
             Err(_) => return Err(NoMemory),
         }
-        self.clerk.stuck = None;
+        self.history_writer.stuck = None;
         Ok(())
     }
 
@@ -198,7 +198,8 @@ impl<K: Kind> ViewWriter<K> {
         ensures fold { into.new ≡ state_after K.rules self.old.layout self.old.published }
         ensures fit { Fit K.rules self.old.layout self.old.published }
     {
-        into.copy_page(self.writer.published());
+        let page = self.writer.published();
+        into.copy_parts(page.cells(), page.tally());
     }
 
     /// Waits for the readers that are inside.
@@ -206,7 +207,7 @@ impl<K: Kind> ViewWriter<K> {
         let ViewWriter {
             writer,
             layout: _,
-            clerk: _,
+            history_writer: _,
         } = self;
         writer.take(rt);
     }

@@ -26,7 +26,7 @@ use Rattle.hash_rows.specs.Shapes.{size_of}
 use Rattle.push_history.specs.Journal.{rules_in, terms_of, updates_by_options}
 use Rattle.push_history.specs.Share.{share_of_worker, worker_of}
 use Rattle.push_history.specs.Updates.{updates_of}
-use Rattle.live_view.specs.Fold.{Fit, Fold, fresh_state, state_after}
+use Rattle.live_state.specs.Fold.{Fit, StateView, fresh_state, state_after}
 use Rattle.round_law.specs.OwnRounds.{folded_after}
 use Rattle.round_law.proofs.Fitting.{folded_few, folded_fits}
 use Rattle.round_law.proofs.OwnRounds.{folded_none, terms_len, updates_there}
@@ -123,7 +123,7 @@ few_amounts packets small few =
     omega (arith, most, times)
 
 -- before the first round
-pub state_none : (r : Rules) (t : Terms) (o : Options) (s : Fold) → s ≡ fresh_state (layout_in o) → s ≡ state_after r (layout_in o) (folded_after t o 0)
+pub state_none : (r : Rules) (t : Terms) (o : Options) (s : StateView) → s ≡ fresh_state (layout_in o) → s ≡ state_after r (layout_in o) (folded_after t o 0)
 state_none r t o s is = is ∙ ap (λ (ms : List Push). state_after r (layout_in o) ms) (sym (folded_none t o))
 
 pub looks_none : (r : Rules) (t : Terms) (o : Options) (looks : Listed Answer) → looks.items ≡ [] → looks.room ≡ looks_wanted o → AreLooks r t o 0 looks

@@ -10,9 +10,9 @@ use Rattle.hash_rows.specs.Rules.{Rules}
 use Rattle.push_history.specs.Journal.{keys_of}
 use Rattle.push_history.specs.LagRun.{Terms}
 use Rattle.push_history.specs.Shown.{told_cells}
-use Rattle.live_view.specs.Copies.{IsCopyOf}
-use Rattle.live_view.specs.Fold.{Fold, state_after}
-use Rattle.live_view.proofs.Live.{shows_all}
+use Rattle.live_state.specs.Copies.{IsCopyOf}
+use Rattle.live_state.specs.Fold.{StateView, state_after}
+use Rattle.live_state.proofs.Live.{shows_all}
 use Rattle.round_law.specs.OwnRounds.{folded_after}
 use Rattle.round_law.specs.Outcome.{IsLook}
 use Rattle.octo_engine.specs.Looks.{AreAllLooks, AreLooks, AreMoreLooks, Runs, layout_in}
@@ -26,7 +26,7 @@ at_end (z ∷ xs) x (suc k) y is = elim (at_end xs x k y is) [ inl h ↦ inl h |
 
 module _ (r : Rules) (t : Terms) (o : Options) (runs : Runs r t o) where
   -- a copy of the state after some rounds
-  pub look_is : (n : ℕ) (s : Fold) (keys : List FlowKey) (a : Answer) → s ≡ state_after r (layout_in o) (folded_after t o n) → keys ≡ keys_of o → IsCopyOf r s keys a → IsLook r o (folded_after t o n) a
+  pub look_is : (n : ℕ) (s : StateView) (keys : List FlowKey) (a : Answer) → s ≡ state_after r (layout_in o) (folded_after t o n) → keys ≡ keys_of o → IsCopyOf r s keys a → IsLook r o (folded_after t o n) a
   look_is n s keys a is asked copy =
       let messages = folded_after t o n in
       let few = runs.few n in
@@ -36,7 +36,7 @@ module _ (r : Rules) (t : Terms) (o : Options) (runs : Runs r t o) where
         front = copy.front ∙ ap (λ z. z.front) is ∙ shows.front;
         upto = copy.upto ∙ ap (λ z. z.upto) is ∙ shows.upto;
         shown = copy.shown
-            ∙ ap (λ (z : Fold). map (r.estimate z.table.shape z.table.cells) keys) is
+            ∙ ap (λ (z : StateView). map (r.estimate z.table.shape z.table.cells) keys) is
             ∙ ap₂ (λ sh cells. map (r.estimate sh cells) keys) shows.shape shows.cells
             ∙ ap (λ (ks : List FlowKey). map (r.estimate o.shape (told_cells r o.shape messages)) ks) asked;
       }

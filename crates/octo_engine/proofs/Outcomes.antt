@@ -15,7 +15,7 @@ use Rattle.hash_rows.specs.Lawful.{IsLawful}
 use Rattle.hash_rows.specs.Rules.{Rules}
 use Rattle.hash_rows.specs.Sequential.{sequential, sequential_table}
 use Rattle.hash_rows.specs.Shapes.{size_of}
-use Rattle.hash_rows.specs.Tables.{Figures, value_at}
+use Rattle.hash_rows.specs.Tables.{TableView, value_at}
 use Rattle.push_history.specs.Journal.{rules_in, terms_of}
 use Rattle.push_history.specs.LagRun.{Terms, Worker, fresh_worker, updates_by, worker_in}
 use Rattle.push_history.specs.LiveHeavy.{live_keys, missed_keys}
@@ -26,10 +26,10 @@ use Rattle.push_history.specs.Share.{share_of_worker}
 use Rattle.push_history.specs.Shown.{told_cells}
 use Rattle.push_history.specs.Told.{told_of}
 use Rattle.push_history.proofs.Joins.{told_value}
-use Rattle.counting.specs.Keeps.{Keeps}
-use Rattle.live_view.specs.Fold.{Fold}
-use Rattle.live_view.specs.Shows.{Shows}
-use Rattle.live_view.proofs.Live.{shows_all}
+use Rattle.push_rule.specs.Keeps.{Keeps}
+use Rattle.live_state.specs.Fold.{StateView}
+use Rattle.live_state.specs.Shows.{Shows}
+use Rattle.live_state.proofs.Live.{shows_all}
 use Rattle.round_law.specs.OwnRounds.{folded_after, own_rounds}
 use Rattle.round_law.specs.Outcome.{AreMarks, IsAnswerAt, IsLook, IsOutcome, settled_cell}
 use Rattle.round_law.proofs.Fitting.{folded_fits, terms_laws}
@@ -87,12 +87,12 @@ module _ (r : Rules) (t : Terms) (o : Options) (packets : List Packet) (terms : 
       record { reader = answer.its_reader; number = answer.its_number; look = subst (λ (z : Rules). IsLook z o (folded_after t o (min (k + 1) n)) a) (sym terms.runs.rules) seen }
 
 module _ {K H : Type 0} (stands : H → ℤ → ℤ → Type 0) (r : Rules) (t : Terms) (o : Options) (packets : List Packet) (terms : AreTerms r t o packets) (n : ℕ) where
-  pub shown : (parts : List (Part K H)) (state : Fold) → IsEnd stands r t o packets n parts state → Shows r (layout_in o) (folded_after t o n) state
+  pub shown : (parts : List (Part K H)) (state : StateView) → IsEnd stands r t o packets n parts state → Shows r (layout_in o) (folded_after t o n) state
   shown parts state end =
       let few = terms.runs.few n in
-      subst (λ (s : Fold). Shows r (layout_in o) (folded_after t o n) s) (sym end.state_is) (shows_all r (layout_in o) (folded_after t o n) (terms.runs.fit n) (omega (arith, few)))
+      subst (λ (s : StateView). Shows r (layout_in o) (folded_after t o n) s) (sym end.state_is) (shows_all r (layout_in o) (folded_after t o n) (terms.runs.fit n) (omega (arith, few)))
 
-  pub all_idle : (parts : List (Part K H)) (state : Fold) → IsEnd stands r t o packets n parts state → is_busy t o (events_of_rounds t o n) ≡ false
+  pub all_idle : (parts : List (Part K H)) (state : StateView) → IsEnd stands r t o packets n parts state → is_busy t o (events_of_rounds t o n) ≡ false
   all_idle parts state end =
       let len = end.workers.len in
       idle_by_workers t o terms.runs.workers n (λ w lt.
@@ -100,18 +100,18 @@ module _ {K H : Type 0} (stands : H → ℤ → ℤ → Type 0) (r : Rules) (t :
       let d = some_item parts w inside in
       sym (busy_is r stands t o packets terms n w (get_or parts w d) lt (end.workers.each w d lt)) ∙ none_at is_busy_part parts end.none w d inside)
 
-  pub kept : (parts : List (Part K H)) (state : Fold) → IsEnd stands r t o packets n parts state → (w : ℕ) (p : Part K H) → w < length parts → IsKept r stands state.table.shape w (slice_index_or parts w p).counter
+  pub kept : (parts : List (Part K H)) (state : StateView) → IsEnd stands r t o packets n parts state → (w : ℕ) (p : Part K H) → w < length parts → IsKept r stands state.table.shape w (slice_index_or parts w p).counter
   kept parts state end w p lt =
       let len = end.workers.len in
       let part = end.workers.each w p (omega (arith, lt, len)) in
       record { t = t; x = own_rounds t o w n fresh_worker; rules = terms.runs.rules; keeps = part.keeps; cells = part.sound.fit.cells ∙ ap size_of (sym (shown parts state end).shape) }
 
-  pub whole : (parts : List (Part K H)) (state : Fold) → IsEnd stands r t o packets n parts state → length state.table.cells ≡ size_of state.table.shape
+  pub whole : (parts : List (Part K H)) (state : StateView) → IsEnd stands r t o packets n parts state → length state.table.cells ≡ size_of state.table.shape
   whole parts state end =
       let shows = shown parts state end in
       ap length shows.cells ∙ told_len r o (folded_after t o n) ∙ ap size_of (sym shows.shape)
 
-  marks_are : (parts : List (Part K H)) (state : Fold) (bits : List (List Bool)) → IsEnd stands r t o packets n parts state → HasRefused r stands parts bits → (w : ℕ) → w < o.workers
+  marks_are : (parts : List (Part K H)) (state : StateView) (bits : List (List Bool)) → IsEnd stands r t o packets n parts state → HasRefused r stands parts bits → (w : ℕ) → w < o.workers
       → AreMarks t w (worker_in (round_state t o n) w) (slice_index_or bits w [])
   marks_are parts state bits end refused w lt =
       let len = end.workers.len in
@@ -126,7 +126,7 @@ module _ {K H : Type 0} (stands : H → ℤ → ℤ → Type 0) (r : Rules) (t :
         marks = row.marks t w (own_rounds t o w n fresh_worker) terms.runs.rules part.keeps;
       })
 
-  pub outcome_of : (parts : List (Part K H)) (state : Fold) (looks answers : List Answer) (bits : List (List Bool)) (pushes : List ℕ) (live : List FlowKey) (missed : ℕ)
+  pub outcome_of : (parts : List (Part K H)) (state : StateView) (looks answers : List Answer) (bits : List (List Bool)) (pushes : List ℕ) (live : List FlowKey) (missed : ℕ)
       → IsEnd stands r t o packets n parts state → AreAllLooks r t o n looks → (0 < o.readers → looks_wanted o ≡ o.asks) → AreAnswers o.readers o.asks looks answers → HasRefused r stands parts bits
       → pushes ≡ state.front → live ≡ state.heavy.keys → missed ≡ state.heavy.missed → IsOutcome t o n bits pushes answers live missed
   outcome_of parts state looks answers bits pushes live missed end all wanted are refused front keys least =
@@ -170,7 +170,7 @@ settled_is packets o n cell lawful small =
 
 module _ {K H : Type 0} (stands : H → ℤ → ℤ → Type 0) (r : Rules) (packets : List Packet) (o : Options) (rules_is : r ≡ rules_in o) (lawful : IsLawful o) (small : All (λ p. p.amount < 2 ^ 32) packets)
     (terms : AreTerms r (terms_of packets o) o packets) where
-  pub table_is : (n : ℕ) (parts : List (Part K H)) (state : Fold) (old new : Figures) → IsEnd stands r (terms_of packets o) o packets n parts state → old ≡ state.table → new.shape ≡ old.shape
+  pub table_is : (n : ℕ) (parts : List (Part K H)) (state : StateView) (old new : TableView) → IsEnd stands r (terms_of packets o) o packets n parts state → old ≡ state.table → new.shape ≡ old.shape
       → length new.cells ≡ size_of new.shape
       → ((t : Terms) (xs : ℕ → Worker) → t.rules ≡ r → ((w : ℕ) (p : Part K H) → w < length parts → Keeps stands t w (slice_index_or parts w p).counter (xs w)) → HasJoined t xs (length parts) (size_of old.shape) old.cells new.cells)
       → new ≡ sequential_table r o.shape packets
@@ -185,7 +185,7 @@ module _ {K H : Type 0} (stands : H → ℤ → ℤ → Type 0) (r : Rules) (pac
       let all = joined t xs terms.runs.rules (λ w p lt. (end.workers.each w p (omega (arith, lt, workers))).keeps) in
       let idle = all_idle stands r t o packets terms n parts state end in
       let each : (cell : ℕ) → cell < size_of o.shape → get_or new.cells cell (pos 0) ≡ sequential r o.shape packets cell = λ cell lt.
-      let before : value_at old.cells cell ≡ told_of r cell (folded_after t o n) = ap (λ (z : Figures). value_at z.cells cell) was ∙ ap (λ (l : List ℤ). value_at l cell) shows.cells ∙ told_at r o (folded_after t o n) cell lt in
+      let before : value_at old.cells cell ≡ told_of r cell (folded_after t o n) = ap (λ (z : TableView). value_at z.cells cell) was ∙ ap (λ (l : List ℤ). value_at l cell) shows.cells ∙ told_at r o (folded_after t o n) cell lt in
       all cell (subst (λ s. cell < size_of s) (sym old_shape) lt)
       ∙ ap (λ z. fold t.rules.join z (residues_of t xs (length parts) cell)) (before ∙ ap (λ (z : Rules). told_of z cell (folded_after t o n)) (sym terms.runs.rules))
       ∙ ap (λ k. fold t.rules.join (told_of t.rules cell (folded_after t o n)) (residues_of t xs k cell)) workers

@@ -12,8 +12,8 @@ use Rattle.std.proofs.Math.Nat.{one-le-mul}
 use Rattle.push_history.specs.LagRun.{Terms, Worker, updates_by, fresh_worker}
 use Rattle.push_history.specs.OwnSteps.{folded_in_round, is_own_busy, own_round}
 use Rattle.push_history.specs.Share.{share_of_worker}
-use Rattle.counting.specs.Keeps.{Keeps}
-use Rattle.live_view.specs.Fold.{Fold, absorbed, fresh_state, state_after}
+use Rattle.push_rule.specs.Keeps.{Keeps}
+use Rattle.live_state.specs.Fold.{StateView, absorbed, fresh_state, state_after}
 use Rattle.round_law.specs.OwnRounds.{folded_after, own_rounds, work_left}
 use Rattle.round_law.proofs.OwnRounds.{folded_more, rounds_more}
 use Rattle.round_law.proofs.Measure.{IsWithin, less_left, no_more_left, round_within}
@@ -28,7 +28,7 @@ use Rattle.octo_engine.proofs.Stepping.{counted_by}
 use Rattle.octo_engine.proofs.Sums.{by_place, sums_less}
 
 -- the state once what a round gives is folded
-pub state_more : (r : Rules) (t : Terms) (o : Options) → Runs r t o → (n : ℕ) (s new : Fold) (messages : List Push) → s ≡ state_after r (layout_in o) (folded_after t o n)
+pub state_more : (r : Rules) (t : Terms) (o : Options) → Runs r t o → (n : ℕ) (s new : StateView) (messages : List Push) → s ≡ state_after r (layout_in o) (folded_after t o n)
     → messages ≡ flat_map (λ w. folded_in_round t o w (own_rounds t o w n fresh_worker)) (range_with_len 0 o.workers) → new ≡ fold (absorbed r) s messages
     → new ≡ state_after r (layout_in o) (folded_after t o (n + 1))
 state_more r t o runs n s new messages is given made =

@@ -9,14 +9,14 @@ use Rattle.hash_rows.specs.declared.options.Options.{Options}
 use Rattle.hash_rows.specs.declared.shape.Push.{Push}
 use Rattle.push_history.specs.LagRun.{Terms, Worker}
 use Rattle.push_history.specs.OwnSteps.{counted_in_round, folded_in_round, held_of, own_round, with_taken}
-use Rattle.counting.specs.Desk.{Desk, Extends, in_lane}
-use Rattle.counting.specs.Keeps.{Keeps}
+use Rattle.push_rule.specs.Counters.{CounterView, Extends, in_lane}
+use Rattle.push_rule.specs.Keeps.{Keeps}
 use Rattle.round_law.specs.OwnRounds.{own_rounds}
 use Rattle.octo_engine.specs.Counts.{IsFit}
 use Rattle.octo_engine.specs.Parts.{AreEnds, HasRun, block, cut_at, end_at}
 
 module _ {H : Type 0} (stands : H → ℤ → ℤ → Type 0) (t : Terms) (w : ℕ) where
-  pub held_is : (d : Desk H) (x : Worker) → Keeps stands t w d x → held_of x ≡ in_lane d
+  pub held_is : (d : CounterView H) (x : Worker) → Keeps stands t w d x → held_of x ≡ in_lane d
   held_is d x keeps =
       let taken = keeps.taken in
       let len = ap length keeps.queue in
@@ -24,18 +24,18 @@ module _ {H : Type 0} (stands : H → ℤ → ℤ → Type 0) (t : Terms) (w : �
       omega (arith, taken, len, both)
 
   -- the messages in the lane of the worker are those of the queue that weren't taken
-  lane_is : (d : Desk H) (x : Worker) → Keeps stands t w d x → drop x.taken x.sent ≡ drop d.taken d.queue
+  lane_is : (d : CounterView H) (x : Worker) → Keeps stands t w d x → drop x.taken x.sent ≡ drop d.taken d.queue
   lane_is d x keeps = ap₂ (λ n (l : List Push). drop n l) keeps.taken keeps.queue ∙ drop-append-add keeps.cleared d.queue d.taken
 
   -- after it counted, the worker gives away as many messages as a batch has
-  pub own_is : (o : Options) (mid new : Desk H) (x : Worker) (count : ℕ) → Keeps stands t w mid (counted_in_round t o w x) → count ≡ min o.batch (in_lane mid)
+  pub own_is : (o : Options) (mid new : CounterView H) (x : Worker) (count : ℕ) → Keeps stands t w mid (counted_in_round t o w x) → count ≡ min o.batch (in_lane mid)
       → Keeps stands t w new (with_taken (counted_in_round t o w x) count) → Keeps stands t w new (own_round t o w x)
   unfolding own_round
   own_is o mid new x count keeps is kept =
       let c = counted_in_round t o w x in
       subst (λ n. Keeps stands t w new (with_taken c n)) (is ∙ ap (λ n. min o.batch n) (sym (held_is mid c keeps))) kept
 
-  pub given_is : (o : Options) (mid : Desk H) (x : Worker) (count from to : ℕ) → Keeps stands t w mid (counted_in_round t o w x) → count ≡ min o.batch (in_lane mid)
+  pub given_is : (o : Options) (mid : CounterView H) (x : Worker) (count from to : ℕ) → Keeps stands t w mid (counted_in_round t o w x) → count ≡ min o.batch (in_lane mid)
       → from ≡ mid.taken → to ≡ mid.taken + count → slice_range mid.queue from to ≡ folded_in_round t o w x
   unfolding folded_in_round
   given_is o mid x count from to keeps is starts ends =
@@ -84,10 +84,10 @@ ends_none ends taken len none =
     }
 
 module _ {H : Type 0} where
-  pub run_none : (stands : H → ℤ → ℤ → Type 0) (t : Terms) (o : Options) (w : ℕ) (x : Worker) (ends : List ℕ) (d : Desk H) → Keeps stands t w d x → HasRun stands t o w x 0 ends d
+  pub run_none : (stands : H → ℤ → ℤ → Type 0) (t : Terms) (o : Options) (w : ℕ) (x : Worker) (ends : List ℕ) (d : CounterView H) → Keeps stands t w d x → HasRun stands t o w x 0 ends d
   run_none stands t o w x ends d keeps = record { keeps = keeps; folded = λ k lt. absurd (omega (arith, lt)) }
 
-  pub run_more : (stands : H → ℤ → ℤ → Type 0) (t : Terms) (o : Options) (w : ℕ) (x : Worker) (n : ℕ) (ends : List ℕ) (d d' : Desk H) (e : ℕ) → HasRun stands t o w x n ends d → AreEnds ends n d.taken
+  pub run_more : (stands : H → ℤ → ℤ → Type 0) (t : Terms) (o : Options) (w : ℕ) (x : Worker) (n : ℕ) (ends : List ℕ) (d d' : CounterView H) (e : ℕ) → HasRun stands t o w x n ends d → AreEnds ends n d.taken
       → d.taken ≤ length d.queue → Extends d.queue d'.queue → n < block → e ≡ d'.taken
       → Keeps stands t w d' (own_round t o w (own_rounds t o w n x)) → slice_range d'.queue d.taken d'.taken ≡ folded_in_round t o w (own_rounds t o w n x)
       → HasRun stands t o w x (n + 1) (set ends (n + 1) e) d'
@@ -111,12 +111,12 @@ module _ {H : Type 0} where
       ] in
       record { keeps = subst (λ j. Keeps stands t w d' (own_rounds t o w j x)) next keeps; folded = folded }
 
-  pub fit_cleared : (o : Options) (packets : ℕ) (share : List ℕ) (a b : Desk H) → IsFit o packets share a → b ≡ record a { queue = drop a.taken a.queue; taken = 0 } → IsFit o packets share b
+  pub fit_cleared : (o : Options) (packets : ℕ) (share : List ℕ) (a b : CounterView H) → IsFit o packets share a → b ≡ record a { queue = drop a.taken a.queue; taken = 0 } → IsFit o packets share b
   fit_cleared o packets share a b fit is =
       let queue = fit.queue in
       let taken = fit.taken in
       let len = length-drop a.taken a.queue in
-      subst (λ (d : Desk H). IsFit o packets share d) (sym is) (record {
+      subst (λ (d : CounterView H). IsFit o packets share d) (sym is) (record {
         within = fit.within;
         few = fit.few;
         updates = fit.updates;

@@ -14,10 +14,10 @@ use Rattle.push_history.specs.Updates.{update_at, update_in_row}
 use Rattle.hash_rows.specs.declared.shape.Shape.{Shape}
 use Rattle.hash_rows.specs.declared.shape.Packet.{Packet}
 use Rattle.hash_rows.specs.Rules.{Rules}
-use Rattle.hash_rows.specs.Shapes.{place_of}
+use Rattle.hash_rows.specs.Shapes.{cell_of}
 use Rattle.push_history.specs.Rounds.{is_waits}
-use Rattle.counting.specs.Desk.{Desk, SameDesk, Extends}
-use Rattle.counting.specs.Keeps.{Keeps}
+use Rattle.push_rule.specs.Counters.{CounterView, KeepsSettings, Extends}
+use Rattle.push_rule.specs.Keeps.{Keeps}
 use Rattle.octo_engine.specs.Counts.{HasMoved, HasCounted, AreNext, IsFit}
 
 step_counted_by : (over quiet free : Bool) (y : Worker) (m : Push) (full : Full) → over ≡ false → is_waits (if over then (y, Over) else if quiet then (record { counted = y.counted + 1; sent = y.sent; refused = y.refused; taken = y.taken }, Counted) else if free then pushes m y else meets_full full y).1 ≡ false
@@ -38,11 +38,11 @@ step_counts t w y lt not =
     (message_of t.rules w updates y.sent y.counted) t.full more not
 
 module _ {H : Type 0} (stands : H → ℤ → ℤ → Type 0) (t : Terms) (w : ℕ) where
-  pub counted_none : (x : Worker) (d : Desk H) → Keeps stands t w d x → HasCounted stands t w x 0 false d
+  pub counted_none : (x : Worker) (d : CounterView H) → Keeps stands t w d x → HasCounted stands t w x 0 false d
   counted_none x d keeps = record { now = x; keeps = keeps; counted = λ _. omega arith; rest = λ more. ap (λ k. counts t w k x) (omega arith) }
 
   -- one update more
-  pub counted_more : (x : Worker) (n : ℕ) (d d' : Desk H) (reply : Reply) (h : HasCounted stands t w x n false d) → h.now.counted < length (updates_by t w)
+  pub counted_more : (x : Worker) (n : ℕ) (d d' : CounterView H) (reply : Reply) (h : HasCounted stands t w x n false d) → h.now.counted < length (updates_by t w)
       → Keeps stands t w d' (count_step t w h.now).0 → reply ≡ (count_step t w h.now).1 → HasCounted stands t w x (n + 1) (is_waits reply) d'
   counted_more x n d d' reply h lt keeps is =
       let step = count_step t w h.now in
@@ -56,7 +56,7 @@ module _ {H : Type 0} (stands : H → ℤ → ℤ → Type 0) (t : Terms) (w : �
       record { now = step.0; keeps = keeps; counted = number; rest = rest }
 
   -- the worker after n updates, and then after m more
-  pub counted_then : (x : Worker) (n m : ℕ) (b : Bool) (d d' : Desk H) (h : HasCounted stands t w x n false d) → HasCounted stands t w h.now m b d' → HasCounted stands t w x (n + m) b d'
+  pub counted_then : (x : Worker) (n m : ℕ) (b : Bool) (d d' : CounterView H) (h : HasCounted stands t w x n false d) → HasCounted stands t w h.now m b d' → HasCounted stands t w x (n + m) b d'
   counted_then x n m b d d' h k =
       let number : b ≡ false → k.now.counted ≡ x.counted + (n + m) = λ not.
       let one = h.counted refl in
@@ -68,7 +68,7 @@ module _ {H : Type 0} (stands : H → ℤ → ℤ → Type 0) (t : Terms) (w : �
       record { now = k.now; keeps = k.keeps; counted = number; rest = rest }
 
 module _ {H : Type 0} where
-  pub same_desk : (a b c : Desk H) → SameDesk a b → SameDesk b c → SameDesk a c
+  pub same_desk : (a b c : CounterView H) → KeepsSettings a b → KeepsSettings b c → KeepsSettings a c
   same_desk a b c x y = record {
     worker = y.worker ∙ x.worker;
     lane = y.lane ∙ x.lane;
@@ -80,7 +80,7 @@ module _ {H : Type 0} where
     cells = y.cells ∙ x.cells;
   }
 
-  pub itself : (a : Desk H) → SameDesk a a
+  pub itself : (a : CounterView H) → KeepsSettings a a
   itself a = record { worker = refl; lane = refl; full = refl; room = refl; taken = refl; threshold = refl; updates = refl; cells = refl }
 
 pub extends_none : {A : Type 0} (xs : List A) → Extends xs xs
@@ -94,10 +94,10 @@ counted_up true old new is = (omega (arith, is), omega (arith, is), λ not. absu
 counted_up false old new is = (omega (arith, is), omega (arith, is), λ _. is)
 
 module _ {H : Type 0} where
-  pub moved_none : (d : Desk H) → HasMoved d d 0 false
+  pub moved_none : (d : CounterView H) → HasMoved d d 0 false
   moved_none d = record { same = itself d; grows = extends_none d.queue; queue = λ h. h; behind = omega arith; most = omega arith; all = λ _. omega arith }
 
-  pub moved_then : (a b c : Desk H) (n m : ℕ) (waits : Bool) → HasMoved a b n false → HasMoved b c m waits → HasMoved a c (n + m) waits
+  pub moved_then : (a b c : CounterView H) (n m : ℕ) (waits : Bool) → HasMoved a b n false → HasMoved b c m waits → HasMoved a c (n + m) waits
   moved_then a b c n m waits x y =
       let before = x.all refl in
       let total : waits ≡ false → c.sketch.counted ≡ a.sketch.counted + (n + m) = λ not. let after = y.all not in omega (arith, before, after) in
@@ -111,7 +111,7 @@ module _ {H : Type 0} where
       }
 
   -- what one update makes of the worker
-  pub moved_one : (b c : Desk H) (waits : Bool) → SameDesk b c → length c.queue ≤ max (length b.queue) (b.taken + b.lane) → Extends b.queue c.queue
+  pub moved_one : (b c : CounterView H) (waits : Bool) → KeepsSettings b c → length c.queue ≤ max (length b.queue) (b.taken + b.lane) → Extends b.queue c.queue
       → c.sketch.counted ≡ (if waits then b.sketch.counted else b.sketch.counted + 1) → HasMoved b c 1 waits
   moved_one b c waits same lane grows counted =
       let up = counted_up waits b.sketch.counted c.sketch.counted counted in
@@ -119,14 +119,14 @@ module _ {H : Type 0} where
       let room = same.lane in
       record { same = same; grows = grows; queue = λ h. omega (arith, h, lane, taken, room); behind = up.0; most = up.1; all = up.2 }
 
-  pub moved_row : (a b c : Desk H) (row first : ℕ) (waits : Bool) → first ≤ row → HasMoved a b (row - first) false → HasMoved b c 1 waits → HasMoved a c (row + 1 - first) waits
+  pub moved_row : (a b c : CounterView H) (row first : ℕ) (waits : Bool) → first ≤ row → HasMoved a b (row - first) false → HasMoved b c 1 waits → HasMoved a c (row + 1 - first) waits
   moved_row a b c row first waits le x y =
       let same : row - first + 1 ≡ row + 1 - first = omega (arith, le) in
       subst (λ n. HasMoved a c n waits) same (moved_then a b c (row - first) 1 waits x y)
 
 module _ {H : Type 0} (stands : H → ℤ → ℤ → Type 0) (t : Terms) (w : ℕ) where
   -- once a push waits, no more updates are counted
-  pub counted_ends : (x : Worker) (n m : ℕ) (d : Desk H) → n ≤ m → HasCounted stands t w x n true d → HasCounted stands t w x m true d
+  pub counted_ends : (x : Worker) (n m : ℕ) (d : CounterView H) → n ≤ m → HasCounted stands t w x n true d → HasCounted stands t w x m true d
   counted_ends x n m d le h =
       let rest : (more : ℕ) → counts t w (m + more) x ≡ h.now = λ more.
       let same : m + more ≡ n + (m - n + more) = omega (arith, le) in
@@ -134,12 +134,12 @@ module _ {H : Type 0} (stands : H → ℤ → ℤ → Type 0) (t : Terms) (w : �
       record { now = h.now; keeps = h.keeps; counted = λ no. absurd (true≢false no); rest = rest }
 
   -- what all of n updates come to
-  pub counted_all : (x : Worker) (n : ℕ) (b : Bool) (d : Desk H) (h : HasCounted stands t w x n b d) → counts t w n x ≡ h.now
+  pub counted_all : (x : Worker) (n : ℕ) (b : Bool) (d : CounterView H) (h : HasCounted stands t w x n b d) → counts t w n x ≡ h.now
   counted_all x n true d h = ap (λ k. counts t w k x) (omega arith) ∙ h.rest 0
   counted_all x n false d h = ap (λ k. counts t w k x) (omega arith) ∙ h.rest 0
 
 -- the update that a packet adds in a row
-pub made : (r : Rules) (shape : Shape) (position : ℕ) (packet : Packet) (row cell : ℕ) (value : ℤ) → cell ≡ place_of shape packet.key row → value ≡ r.value shape packet row
+pub made : (r : Rules) (shape : Shape) (position : ℕ) (packet : Packet) (row cell : ℕ) (value : ℤ) → cell ≡ cell_of shape packet.key row → value ≡ r.value shape packet row
     → update_in_row r shape position packet row ≡ record { packet = position; key = packet.key; cell = cell; value = value }
 unfolding update_in_row
 made r shape position packet row cell value place is =
@@ -148,7 +148,7 @@ made r shape position packet row cell value place is =
 
 -- the worker's next update is that of the packet in the row
 pub next_is : (t : Terms) (w : ℕ) (x : Worker) (shape : Shape) (packet : Packet) (position first last : ℕ) → AreNext t w x shape packet position first last
-    → (row : ℕ) → first ≤ row → row < last → (y : Worker) → y.counted ≡ x.counted + (row - first) → (cell : ℕ) (value : ℤ) → cell ≡ place_of shape packet.key row → value ≡ t.rules.value shape packet row
+    → (row : ℕ) → first ≤ row → row < last → (y : Worker) → y.counted ≡ x.counted + (row - first) → (cell : ℕ) (value : ℤ) → cell ≡ cell_of shape packet.key row → value ≡ t.rules.value shape packet row
     → (y.counted < length (updates_by t w)) × (update_at (updates_by t w) y.counted ≡ record { packet = position; key = packet.key; cell = cell; value = value })
 next_is t w x shape packet position first last next row le lt y at cell value place is =
     let inside = next.within in
@@ -160,7 +160,7 @@ next_is t w x shape packet position first last next row le lt y at cell value pl
 
 module _ {H : Type 0} (stands : H → ℤ → ℤ → Type 0) (t : Terms) (w : ℕ) where
   -- the counter's number is that of the worker
-  pub counted_by : (d : Desk H) (x : Worker) (n : ℕ) → Keeps stands t w d x → n ≡ d.sketch.counted → n ≡ x.counted
+  pub counted_by : (d : CounterView H) (x : Worker) (n : ℕ) → Keeps stands t w d x → n ≡ d.sketch.counted → n ≡ x.counted
   counted_by d x n keeps is =
       let within = keeps.within in
       let all = keeps.sketch.all_counted in
@@ -168,12 +168,12 @@ module _ {H : Type 0} (stands : H → ℤ → ℤ → Type 0) (t : Terms) (w : �
       omega (arith, is, all, len, within)
 
   -- after all of the updates, or at one that waits
-  pub keeps_counted : (x : Worker) (n : ℕ) (b : Bool) (d : Desk H) → HasCounted stands t w x n b d → Keeps stands t w d (counts t w n x)
+  pub keeps_counted : (x : Worker) (n : ℕ) (b : Bool) (d : CounterView H) → HasCounted stands t w x n b d → Keeps stands t w d (counts t w n x)
   keeps_counted x n b d h = subst (λ (z : Worker). Keeps stands t w d z) (sym (counted_all stands t w x n b d h)) h.keeps
 
 module _ {H : Type 0} where
   -- counting keeps a counter fit
-  pub fit_moved : (o : Options) (packets : ℕ) (share : List ℕ) (a b : Desk H) (n : ℕ) (waits : Bool) → IsFit o packets share a → HasMoved a b n waits → a.sketch.counted + n ≤ a.sketch.room → IsFit o packets share b
+  pub fit_moved : (o : Options) (packets : ℕ) (share : List ℕ) (a b : CounterView H) (n : ℕ) (waits : Bool) → IsFit o packets share a → HasMoved a b n waits → a.sketch.counted + n ≤ a.sketch.room → IsFit o packets share b
   fit_moved o packets share a b n waits fit moved most =
       let same = moved.same in
       let updates = same.updates in
@@ -195,7 +195,7 @@ module _ {H : Type 0} where
 
 module _ {H : Type 0} (stands : H → ℤ → ℤ → Type 0) (t : Terms) (w : ℕ) where
   -- what a worker counts in a round
-  pub round_is : (o : Options) (d d' : Desk H) (x : Worker) (n : ℕ) → Keeps stands t w d x → length (updates_by t w) ≡ d.sketch.room → n ≡ min (o.shape.rows * o.round) (d.sketch.room - d.sketch.counted)
+  pub round_is : (o : Options) (d d' : CounterView H) (x : Worker) (n : ℕ) → Keeps stands t w d x → length (updates_by t w) ≡ d.sketch.room → n ≡ min (o.shape.rows * o.round) (d.sketch.room - d.sketch.counted)
       → Keeps stands t w d' (counts t w n x) → Keeps stands t w d' (counted_in_round t o w x)
   unfolding counted_in_round
   round_is o d d' x n keeps len is kept =

@@ -8,8 +8,8 @@ use Rattle.hash_rows.specs.Shapes.{size_of}
 use Rattle.push_history.specs.LagRun.{Terms, Worker, updates_by}
 use Rattle.push_history.specs.OwnSteps.{counts}
 use Rattle.push_history.specs.Updates.{update_at, update_in_row, updates_of}
-use Rattle.counting.specs.Desk.{Desk, SameDesk, Extends}
-use Rattle.counting.specs.Keeps.{Keeps}
+use Rattle.push_rule.specs.Counters.{CounterView, KeepsSettings, Extends}
+use Rattle.push_rule.specs.Keeps.{Keeps}
 
 -- the updates of worker w are those of these packets
 pub record HasShare (r : Rules) (t : Terms) (shape : Shape) (packets : List Packet) (w : ℕ) (share : List ℕ) : Type 0 where
@@ -23,8 +23,8 @@ pub record AreNext (t : Terms) (w : ℕ) (x : Worker) (shape : Shape) (packet : 
 
 module _ {Held : Type 0} where
   -- the worker counted so many updates, or fewer where one of them waits
-  pub record HasMoved (old new : Desk Held) (n : ℕ) (waits : Bool) : Type 0 where
-    pub same : SameDesk old new
+  pub record HasMoved (old new : CounterView Held) (n : ℕ) (waits : Bool) : Type 0 where
+    pub same : KeepsSettings old new
     pub grows : Extends old.queue new.queue
     pub queue : length old.queue ≤ old.taken + old.lane → length new.queue ≤ new.taken + new.lane
     pub behind : old.sketch.counted ≤ new.sketch.counted
@@ -32,14 +32,14 @@ module _ {Held : Type 0} where
     pub all : waits ≡ false → new.sketch.counted ≡ old.sketch.counted + n
 
   -- worker x has counted n updates and is here; where one waits, it ends for however many more
-  pub record HasCounted (stands : Held → ℤ → ℤ → Type 0) (t : Terms) (w : ℕ) (x : Worker) (n : ℕ) (waits : Bool) (d : Desk Held) : Type 0 where
+  pub record HasCounted (stands : Held → ℤ → ℤ → Type 0) (t : Terms) (w : ℕ) (x : Worker) (n : ℕ) (waits : Bool) (d : CounterView Held) : Type 0 where
     pub now : Worker
     pub keeps : Keeps stands t w d now
     pub counted : waits ≡ false → now.counted ≡ x.counted + n
     pub rest : (more : ℕ) → counts t w (n + more) x ≡ (if waits then now else counts t w more now)
 
   -- the counter is for the packets of the share, and has room
-  pub record IsFit (o : Options) (packets : ℕ) (share : List ℕ) (d : Desk Held) : Type 0 where
+  pub record IsFit (o : Options) (packets : ℕ) (share : List ℕ) (d : CounterView Held) : Type 0 where
     pub within : All (λ i. i < packets) share
     pub few : length share ≤ 16777216
     pub updates : d.sketch.room ≡ o.shape.rows * length share

@@ -5,8 +5,8 @@ use Rattle.hash_rows.specs.declared.answer.Answer.{Answer}
 use Rattle.hash_rows.specs.declared.options.Options.{Options}
 use Rattle.hash_rows.specs.Rules.{Rules}
 use Rattle.push_history.specs.LagRun.{Terms}
-use Rattle.live_view.specs.Fold.{Fit}
-use Rattle.live_view.specs.declared.layout.Layout.{Layout}
+use Rattle.live_state.specs.Fold.{Fit}
+use Rattle.live_state.specs.declared.layout.Layout.{Layout}
 use Rattle.round_law.specs.OwnRounds.{folded_after}
 use Rattle.round_law.specs.Outcome.{IsLook}
 

@@ -8,8 +8,8 @@ use Rattle.push_history.specs.LagRun.{Terms, Worker, fresh_worker}
 use Rattle.push_history.specs.OwnSteps.{folded_in_round}
 use Rattle.push_history.specs.Share.{share_of_worker}
 use Rattle.round_law.specs.OwnRounds.{own_rounds}
-use Rattle.counting.specs.Desk.{Desk, in_lane}
-use Rattle.counting.specs.Keeps.{Keeps}
+use Rattle.push_rule.specs.Counters.{CounterView, in_lane}
+use Rattle.push_rule.specs.Keeps.{Keeps}
 use Rattle.octo_engine.specs.declared.part.Part.{Part}
 use Rattle.octo_engine.specs.Counts.{HasShare, IsFit}
 
@@ -34,7 +34,7 @@ pub record AreEnds (ends : List ℕ) (n taken : ℕ) : Type 0 where
 
 module _ {Held : Type 0} where
   -- worker x has gone through n rounds of the block, and between two ends stand the messages of the round
-  pub record HasRun (stands : Held → ℤ → ℤ → Type 0) (t : Terms) (o : Options) (w : ℕ) (x : Worker) (n : ℕ) (ends : List ℕ) (d : Desk Held) : Type 0 where
+  pub record HasRun (stands : Held → ℤ → ℤ → Type 0) (t : Terms) (o : Options) (w : ℕ) (x : Worker) (n : ℕ) (ends : List ℕ) (d : CounterView Held) : Type 0 where
     pub keeps : Keeps stands t w d (own_rounds t o w n x)
     pub folded : (k : ℕ) → k < n → cut_at ends k d.queue ≡ folded_in_round t o w (own_rounds t o w k x)
 

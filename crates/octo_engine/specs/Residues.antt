@@ -8,8 +8,8 @@ use Rattle.hash_rows.specs.Tables.{value_at}
 use Rattle.push_history.specs.LagRun.{Terms, Worker, updates_by}
 use Rattle.push_history.specs.Pushes.{is_refused}
 use Rattle.push_history.specs.Residue.{residue}
-use Rattle.counting.specs.Desk.{Desk}
-use Rattle.counting.specs.Keeps.{Keeps}
+use Rattle.push_rule.specs.Counters.{CounterView}
+use Rattle.push_rule.specs.Keeps.{Keeps}
 use Rattle.octo_engine.specs.declared.part.Part.{Part}
 
 -- what the workers counted of a cell and did not tell, one after another
@@ -22,7 +22,7 @@ HasJoined t xs n size old new = (cell : ℕ) → cell < size → value_at new ce
 
 module _ {Held : Type 0} where
   -- the counter is that of a worker of some run, for a table of this shape
-  pub record IsKept (r : Rules) (stands : Held → ℤ → ℤ → Type 0) (shape : Shape) (w : ℕ) (d : Desk Held) : Type 0 where
+  pub record IsKept (r : Rules) (stands : Held → ℤ → ℤ → Type 0) (shape : Shape) (w : ℕ) (d : CounterView Held) : Type 0 where
     pub t : Terms
     pub x : Worker
     pub rules : t.rules ≡ r

@@ -8,7 +8,7 @@ use Rattle.hash_rows.specs.declared.shape.Packet.{Packet}
 use Rattle.hash_rows.specs.Rules.{Rules}
 use Rattle.push_history.specs.LagRun.{Terms}
 use Rattle.push_history.specs.Share.{share_of_worker}
-use Rattle.live_view.specs.Fold.{Fold, state_after}
+use Rattle.live_state.specs.Fold.{StateView, state_after}
 use Rattle.round_law.specs.OwnRounds.{folded_after}
 use Rattle.octo_engine.specs.declared.part.Part.{Part}
 use Rattle.octo_engine.specs.Counts.{HasShare}
@@ -35,14 +35,14 @@ module _ {K Held : Type 0} where
     pub each : (w : ℕ) (p : Part K Held) → w < o.workers → IsPart stands t o packets n w (slice_index_or parts w p)
 
   -- the parts, the state and the looks are those after so many rounds
-  pub record IsAfter (stands : Held → ℤ → ℤ → Type 0) (r : Rules) (t : Terms) (o : Options) (packets : List Packet) (parts : List (Part K Held)) (state : Fold) (looks : Listed Answer) : Type 0 where
+  pub record IsAfter (stands : Held → ℤ → ℤ → Type 0) (r : Rules) (t : Terms) (o : Options) (packets : List Packet) (parts : List (Part K Held)) (state : StateView) (looks : Listed Answer) : Type 0 where
     pub rounds : ℕ
     pub workers : AreParts stands t o packets rounds parts
     pub state_is : state ≡ state_after r (layout_in o) (folded_after t o rounds)
     pub seen : AreLooks r t o rounds looks
 
   -- no worker is busy after n rounds
-  pub record IsEnd (stands : Held → ℤ → ℤ → Type 0) (r : Rules) (t : Terms) (o : Options) (packets : List Packet) (n : ℕ) (parts : List (Part K Held)) (state : Fold) : Type 0 where
+  pub record IsEnd (stands : Held → ℤ → ℤ → Type 0) (r : Rules) (t : Terms) (o : Options) (packets : List Packet) (n : ℕ) (parts : List (Part K Held)) (state : StateView) : Type 0 where
     pub workers : AreParts stands t o packets n parts
     pub state_is : state ≡ state_after r (layout_in o) (folded_after t o n)
     pub none : list_any is_busy_part parts ≡ false

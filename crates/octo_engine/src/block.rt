@@ -3,15 +3,15 @@ ghost use Rattle.std.specs.List.{list_any};
 ghost use Rattle.hash_rows.specs.Lawful.{IsLawful};
 ghost use Rattle.push_history.specs.LagRun.{Terms, Worker};
 ghost use Rattle.push_history.specs.OwnSteps.{folded_in_round, own_round};
-ghost use Rattle.counting.specs.Desk.{Extends};
-ghost use Rattle.counting.specs.Keeps.{Keeps};
+ghost use Rattle.push_rule.specs.Counters.{Extends};
+ghost use Rattle.push_rule.specs.Keeps.{Keeps};
 ghost use Rattle.octo_engine.specs.Counts.{HasShare, IsFit};
 ghost use Rattle.octo_engine.specs.Parts.{AreEnds, HasRun, IsSound, RanBlock, block, is_busy_part};
 
 use crate::counts::count_in_round;
 use crate::part::{BLOCK, Part};
 use crate::positions::Positions;
-use counting::Counter;
+use push_rule::Counter;
 use hash_rows::{Kind, Options, Packet};
 use std::thread::{Threads, for_each_mut};
 

@@ -3,12 +3,12 @@ ghost use Rattle.hash_rows.specs.Shapes.{IsShape, size_of};
 ghost use Rattle.push_history.specs.LagRun.{Terms, Worker};
 ghost use Rattle.push_history.specs.OwnSteps.{counted_in_round, counts};
 ghost use Rattle.push_history.specs.Rounds.{is_waits};
-ghost use Rattle.counting.specs.Desk.{Extends, SameDesk};
-ghost use Rattle.counting.specs.Keeps.{Keeps};
+ghost use Rattle.push_rule.specs.Counters.{Extends, KeepsSettings};
+ghost use Rattle.push_rule.specs.Keeps.{Keeps};
 ghost use Rattle.octo_engine.specs.Counts.{AreNext, HasCounted, HasMoved, HasShare, IsFit};
 
 use crate::positions::Positions;
-use counting::Counter;
+use push_rule::Counter;
 use hash_rows::{Kind, Options, Packet, Shape, Update, cell_in_row, hash_in_row, key_hash};
 use push_history::Reply;
 
@@ -26,7 +26,7 @@ pub fn count_in_round<K: Kind>(
     ensures keeps { (t : Terms) (w : ℕ) (x : Worker) → HasShare K.rules t options.now.shape packets.now w share.now
         → Keeps K.stands t w counter.old x → Keeps K.stands t w counter.new (counted_in_round t options.now w x) }
     ensures fit { IsFit options.now (length packets.now) share.now counter.new }
-    ensures same { SameDesk counter.old counter.new }
+    ensures same { KeepsSettings counter.old counter.new }
     ensures grows { Extends counter.old.queue counter.new.queue }
 {
     let count = due_in_round(counter, share, packets, options);
@@ -66,7 +66,7 @@ fn count_updates<K: Kind>(
     ensures keeps { (t : Terms) (w : ℕ) (x : Worker) → HasShare K.rules t options.now.shape packets.now w share.now
         → Keeps K.stands t w counter.old x → Keeps K.stands t w counter.new (counts t w count x) }
     ensures fit { IsFit options.now (length packets.now) share.now counter.new }
-    ensures same { SameDesk counter.old counter.new }
+    ensures same { KeepsSettings counter.old counter.new }
     ensures grows { Extends counter.old.queue counter.new.queue }
 {
     let rows = options.shape.rows;

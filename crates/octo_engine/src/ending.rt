@@ -13,7 +13,7 @@ use crate::settle::{join_residues, keys_of_heavy, refused_rows};
 use crate::settled::Settled;
 use flow_base::NoMemory;
 use hash_rows::{Answers, Kind, Options, Packet, Table};
-use live_view::State;
+use live_state::State;
 use std::alloc::Global;
 
 /// What the run comes to, from the parts, the state and the looks after its last round.

@@ -1,11 +1,11 @@
 ghost use Rattle.std.specs.Prelude.{◌≡◌, ◌<◌, ◌≤◌, ℕ, length, fold, Some, slice_get};
 ghost use Rattle.std.specs.List.{flat_map};
-ghost use Rattle.live_view.specs.Fold.{absorbed};
+ghost use Rattle.live_state.specs.Fold.{absorbed};
 ghost use Rattle.octo_engine.specs.Parts.{AreEnds, block, messages_in};
 
 use crate::part::Part;
 use hash_rows::{Kind, Push};
-use live_view::State;
+use live_state::State;
 
 /// Folds what each worker gave away in a round of the block, by worker.
 pub fn fold_round<K: Kind>(state: &mut State<K>, parts: &[Part<K>], round: u32)

@@ -1,15 +1,15 @@
 ghost use Rattle.std.specs.Prelude.{◌≡◌, ◌≤◌, ◌+◌, ℕ, List, length, IfOk, OnOk};
 ghost use Rattle.push_history.specs.Journal.{keys_of};
 ghost use Rattle.push_history.specs.LagRun.{Terms};
-ghost use Rattle.live_view.specs.Copies.{IsCopyOf, estimates_in};
-ghost use Rattle.live_view.specs.Fold.{state_after};
+ghost use Rattle.live_state.specs.Copies.{IsCopyOf, estimates_in};
+ghost use Rattle.live_state.specs.Fold.{state_after};
 ghost use Rattle.round_law.specs.OwnRounds.{folded_after};
 ghost use Rattle.octo_engine.specs.Looks.{AreAllLooks, AreLooks, Runs, layout_in, looks_wanted};
 
 use flow_base::NoMemory;
 use hash_rows::{Answer, Answers, Cells, Counts, Keys, Kind, Options, Sketch, ZERO_KEY};
 use listed::Listed;
-use live_view::State;
+use live_state::State;
 use std::alloc::Global;
 
 /// The keys that each ask asks for.

@@ -1,5 +1,5 @@
 use crate::positions::Positions;
-use counting::Counter;
+use push_rule::Counter;
 use hash_rows::Kind;
 use listed::Listed;
 

@@ -4,7 +4,7 @@ ghost use Rattle.hash_rows.specs.Lawful.{IsLawful};
 ghost use Rattle.push_history.specs.Journal.{keys_of, terms_of};
 ghost use Rattle.push_history.specs.LagRun.{Terms, fresh_worker};
 ghost use Rattle.push_history.specs.OwnSteps.{folded_in_round};
-ghost use Rattle.live_view.specs.Fold.{state_after};
+ghost use Rattle.live_state.specs.Fold.{state_after};
 ghost use Rattle.round_law.specs.OwnRounds.{folded_after, own_rounds};
 ghost use Rattle.octo_engine.specs.Looks.{AreLooks, Runs, layout_in};
 ghost use Rattle.octo_engine.specs.Parts.{AreEnds, block, is_busy_part, messages_in};
@@ -16,7 +16,7 @@ use crate::looks::look_once;
 use crate::part::{BLOCK, Part};
 use flow_base::NoMemory;
 use hash_rows::{Answers, Keys, Kind, Options, Packet};
-use live_view::State;
+use live_state::State;
 use std::alloc::Global;
 use std::thread::Threads;
 

@@ -4,11 +4,11 @@ ghost use Rattle.hash_rows.specs.Shapes.{size_of};
 ghost use Rattle.hash_rows.specs.Tables.{value_at};
 ghost use Rattle.push_history.specs.LagRun.{Terms, Worker, updates_by};
 ghost use Rattle.push_history.specs.Residue.{residue};
-ghost use Rattle.counting.specs.Keeps.{Keeps};
+ghost use Rattle.push_rule.specs.Keeps.{Keeps};
 ghost use Rattle.octo_engine.specs.Residues.{HasJoined, HasRefused, IsKept, IsRow};
 
 use crate::part::Part;
-use counting::Counter;
+use push_rule::Counter;
 use flow_base::NoMemory;
 use hash_rows::{BitRows, Bits, Keys, Kind, Table};
 use heavy_keys::Heavy;

@@ -4,8 +4,8 @@ ghost use Rattle.hash_rows.specs.Shapes.{size_of};
 ghost use Rattle.push_history.specs.Journal.{terms_of};
 ghost use Rattle.push_history.specs.LagRun.{Terms, fresh_worker};
 ghost use Rattle.push_history.specs.Share.{share_of_worker};
-ghost use Rattle.counting.specs.Keeps.{Keeps};
-ghost use Rattle.live_view.specs.Fold.{fresh_state};
+ghost use Rattle.push_rule.specs.Keeps.{Keeps};
+ghost use Rattle.live_state.specs.Fold.{fresh_state};
 ghost use Rattle.octo_engine.specs.Looks.{layout_in};
 ghost use Rattle.octo_engine.specs.Owners.{AreOwners};
 ghost use Rattle.octo_engine.specs.Parts.{IsSound, block};
@@ -13,11 +13,11 @@ ghost use Rattle.octo_engine.specs.Rounds.{AreParts, Suit};
 
 use crate::part::{BLOCK, Part};
 use crate::shares::{Owners, amounts_fit, owners_of, positions_of};
-use counting::Counter;
+use push_rule::Counter;
 use flow_base::NoMemory;
 use hash_rows::{Kind, Options, Packet};
 use listed::Listed;
-use live_view::State;
+use live_state::State;
 use push_rule::Private;
 use std::alloc::Global;
 

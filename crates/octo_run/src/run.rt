@@ -7,6 +7,7 @@ ghost use Rattle.octo_run.specs.Faults.{TellsLine, fault_line, status_of, status
 ghost use Rattle.octo_run.specs.Runs.{CutShort, GivenFor, IsAccepted, IsUnrefused, Reported};
 ghost use Rattle.pcap_read.specs.declared.bad.Bad.{Bad};
 ghost use Rattle.octo_run.specs.declared.faults.Fault.{Fault};
+ghost use Rattle.hash_rows.specs.declared.options.Options.{Options};
 ghost use Rattle.words.specs.Options.{Gives, options_in};
 ghost use Rattle.words.specs.declared.command.Command.{Command};
 
@@ -43,8 +44,8 @@ pub fn octo_rounds<R: Threads + Sync, S: Source, T: Sink, E: Sink>(
     ensures accepted { (result ≡ Status.Done) ⊎ (result ≡ Status.WriteFault) → Given (S.left source.old) (S.left source.new) IsAccepted }
     ensures told { result ≢ Status.Done → (fault : Fault) × (result ≡ status_of fault)
         × TellsLine (E.holds err.old) (E.holds err.new) (E.faults err.old) (E.faults err.new) (fault_line fault) }
-    ensures quiet { result ≡ Status.Done → E.holds err.new ≡ E.holds err.old }
-    ensures untouched { result ≢ Status.Done → result ≢ Status.WriteFault → T.holds out.new ≡ T.holds out.old }
+    ensures quiet { result ≡ Status.Done → err.new ≡ err.old }
+    ensures untouched { result ≢ Status.Done → result ≢ Status.WriteFault → out.new ≡ out.old }
     ensures front { (given : List ℕ) × (S.left source.old ≡ behind given (S.left source.new)) }
     ensures others { (result ≢ Status.Usage) × (result ≢ Status.Differs) }
 {
@@ -71,7 +72,7 @@ fn attempt<R: Threads + Sync, S: Source, T: Sink>(
     ensures bad { (bad : Bad) → IsErrOf result (Fault.Bad bad) → Given (S.left source.old) (S.left source.new) (λ given rest. HoldsRefusal given rest bad) }
     ensures accepted { OnOk result (Given (S.left source.old) (S.left source.new) IsAccepted) }
     ensures accepted_cut { IsErrOf result Fault.WriteFault → Given (S.left source.old) (S.left source.new) IsAccepted }
-    ensures untouched { IsErr result → (IsErrOf result Fault.WriteFault → ⊥) → T.holds out.new ≡ T.holds out.old }
+    ensures untouched { IsErr result → (IsErrOf result Fault.WriteFault → ⊥) → out.new ≡ out.old }
     ensures front { (given : List ℕ) × (S.left source.old ≡ behind given (S.left source.new)) }
     ensures usage { IsErrOf result Fault.Usage → ⊥ }
 {
@@ -103,7 +104,8 @@ pub fn octo<R: Threads + Sync, S: Source, T: Sink, E: Sink>(
     // Usage, exactly where the words aren't in the grammar. Nothing is read.
     ensures usage { result ≡ Status.Usage → (command : Command) → Gives (map string_bytes words.now) command → ⊥ }
     ensures grammar { ((command : Command) → Gives (map string_bytes words.now) command → ⊥) → (result ≡ Status.Usage) ⊎ (result ≡ Status.NoMemory) }
-    ensures unread { result ≡ Status.Usage → (S.left source.new ≡ S.left source.old) × (T.holds out.new ≡ T.holds out.old) }
+    ensures unread { result ≡ Status.Usage → (source.new ≡ source.old) × (out.new ≡ out.old) }
+    ensures front { (given : List ℕ) × (S.left source.old ≡ behind given (S.left source.new)) }
     ensures done { result ≡ Status.Done → (command : Command) → Gives (map string_bytes words.now) command
         → GivenFor command (S.left source.old) (S.left source.new) (Reported (options_in command) (T.holds out.old) (T.holds out.new)) }
     ensures read { result ≡ Status.ReadFault → Rose (S.faults source.old) (S.faults source.new) }
@@ -120,8 +122,10 @@ pub fn octo<R: Threads + Sync, S: Source, T: Sink, E: Sink>(
         → GivenFor command (S.left source.old) (S.left source.new) IsAccepted }
     ensures told { result ≢ Status.Done → (fault : Fault) × (result ≡ status_of fault)
         × TellsLine (E.holds err.old) (E.holds err.new) (E.faults err.old) (E.faults err.new) (fault_line fault) }
-    ensures quiet { result ≡ Status.Done → E.holds err.new ≡ E.holds err.old }
-    ensures untouched { result ≢ Status.Done → result ≢ Status.WriteFault → T.holds out.new ≡ T.holds out.old }
+    ensures quiet { result ≡ Status.Done → err.new ≡ err.old }
+    ensures untouched { result ≢ Status.Done → result ≢ Status.WriteFault → out.new ≡ out.old }
+    ensures generated { (records start : ℕ) (o : Options) → Gives (map string_bytes words.now) (Command.Load records start o) → source.new ≡ source.old }
+    ensures unfailed { (records start : ℕ) (o : Options) → Gives (map string_bytes words.now) (Command.Load records start o) → result ≢ Status.ReadFault }
     ensures never { result ≢ Status.Differs }
 {
     match read_words(alloc, words) {

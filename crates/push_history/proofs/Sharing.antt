@@ -16,7 +16,7 @@ use Rattle.hash_rows.specs.declared.shape.Update.{Update}
 use Rattle.hash_rows.specs.Hash.{share_of_key}
 use Rattle.hash_rows.specs.Rules.{Rules, AreLaws, AreValues}
 use Rattle.hash_rows.specs.Sequential.{joined_of, packet_values, cell_values, sequential}
-use Rattle.hash_rows.specs.Shapes.{place_of}
+use Rattle.hash_rows.specs.Shapes.{cell_of}
 use Rattle.hash_rows.specs.Sketches.{rows_of}
 use Rattle.push_history.specs.Share.{packet_at, worker_of, share_of_worker, zero_key}
 use Rattle.push_history.specs.Updates.{update_in_row, updates_at, updates_of}
@@ -76,7 +76,7 @@ packet_small packets i small = elim (cases_lt i (length packets)) [
 packet_are_values : (r : Rules) → AreLaws r → (shape : Shape) (cell : ℕ) (packet : Packet) → packet.amount < 2 ^ 32 → AreValues r (packet_values r shape cell packet)
 unfolding packet_values
 packet_are_values r laws shape cell packet small =
-    All-map (λ y. r.is_value y ≡ true) (λ row. r.value shape packet row) (filter (λ row. place_of shape packet.key row == cell) (rows_of shape))
+    All-map (λ y. r.is_value y ≡ true) (λ row. r.value shape packet row) (filter (λ row. cell_of shape packet.key row == cell) (rows_of shape))
     (λ k d lt. laws.packet_value shape packet _ small)
 
 -- the sequential sketch is the join of what the workers make of their shares

@@ -5,7 +5,7 @@ use Rattle.hash_rows.specs.declared.shape.Shape.{Shape}
 use Rattle.hash_rows.specs.declared.shape.Packet.{Packet}
 use Rattle.hash_rows.specs.declared.shape.Update.{Update}
 use Rattle.hash_rows.specs.Rules.{Rules}
-use Rattle.hash_rows.specs.Shapes.{place_of}
+use Rattle.hash_rows.specs.Shapes.{cell_of}
 use Rattle.hash_rows.specs.Sketches.{rows_of}
 use Rattle.push_history.specs.Share.{packet_at, zero_key}
 
@@ -14,7 +14,7 @@ unfoldable pub update_in_row : Rules → Shape → ℕ → Packet → ℕ → Up
 update_in_row r shape position packet row = record {
   packet = position;
   key = packet.key;
-  cell = place_of shape packet.key row;
+  cell = cell_of shape packet.key row;
   value = r.value shape packet row;
 }
 

@@ -12,7 +12,7 @@ use Rattle.push_history.specs.Residue.{residue}
 use Rattle.push_history.specs.Pushes.{ArePushes, is_refused}
 use Rattle.push_history.proofs.Joins.{whole_push, told_push}
 use Rattle.push_history.proofs.Growing.{pushes_refused, pushes_sent, numbers_within, told_all, whole_all, refused_other, refused_same}
-use Rattle.push_rule.specs.Stands.{Sketch, StandsAt, StandsFor, Waits}
+use Rattle.push_rule.specs.Stands.{PrivateView, StandsAt, StandsFor, Waits}
 
 -- what was put at the place
 put_same : {X : Type 0} (xs : List X) (i : ℕ) (y x : X) → slice_get (slice_set xs i y) i ≡ Some x → x ≡ y
@@ -27,7 +27,7 @@ put_other xs i k y x ne is =
     slice_get-get_or xs k x within ∙ ap (λ z. Some z) (sym (get_or-set_other xs i k y x ne) ∙ get_or_from_slice_get (slice_set xs i y) k x x is)
 
 -- nothing was counted
-pub stands_fresh : {H : Type 0} (stands : H → ℤ → ℤ → Type 0) (r : Rules) (p : Sketch H) (fresh : H) (cells : ℕ) → stands fresh (pos 0) (pos 0)
+pub stands_fresh : {H : Type 0} (stands : H → ℤ → ℤ → Type 0) (r : Rules) (p : PrivateView H) (fresh : H) (cells : ℕ) → stands fresh (pos 0) (pos 0)
     → p.held ≡ replicate cells fresh → p.counted ≡ 0 → p.due ≡ None → p.bits ≡ replicate p.room false → StandsFor stands r p [] [] []
 unfolding told_of whole_of
 stands_fresh {H} stands r p fresh cells stands_zero held counted idle bits = record {
@@ -68,7 +68,7 @@ stands_by stands r old u h U S counts cells k false other x is =
     cells k x (put_other old u.cell k h x ne is)
 
 -- one more update of a cell
-pub stands_counted : {H : Type 0} (stands : H → ℤ → ℤ → Type 0) (r : Rules) (old new : Sketch H) (u : Update) (h : H) (U : List Update) (S : List Push) (F : List ℕ)
+pub stands_counted : {H : Type 0} (stands : H → ℤ → ℤ → Type 0) (r : Rules) (old new : PrivateView H) (u : Update) (h : H) (U : List Update) (S : List Push) (F : List ℕ)
     → StandsFor stands r old U S F
     → ((told whole : ℤ) → StandsAt stands old.held u.cell told whole → stands h told (r.join whole u.value))
     → new.held ≡ slice_set old.held u.cell h → new.counted ≡ old.counted + 1 → new.bits ≡ old.bits
@@ -101,7 +101,7 @@ mark_by bits n k F false other within was =
     get_or-set_other bits n k true false back ∙ was ∙ sym (refused_other k n F ne)
 
 -- the open update of a sketch in which a cell is due
-pub open_in : {H : Type 0} (stands : H → ℤ → ℤ → Type 0) (r : Rules) (p : Sketch H) (cell : ℕ) (U : List Update) (S : List Push) (F : List ℕ)
+pub open_in : {H : Type 0} (stands : H → ℤ → ℤ → Type 0) (r : Rules) (p : PrivateView H) (cell : ℕ) (U : List Update) (S : List Push) (F : List ℕ)
     → StandsFor stands r p U S F → p.due ≡ Some cell → Waits r p.threshold U S F cell
 open_in stands r p cell U S F was due = subst (λ (o : Option ℕ). MatchOption o (ArePushes r p.threshold U S F) (Waits r p.threshold U S F)) due was.pushes
 
@@ -113,7 +113,7 @@ far_of_last r T U S F cell w =
     (subst (λ (t : List Update). T ≤ r.distance (told_of r cell S) (whole_of r cell t)) w.parts w.far)
 
 -- the open update is refused
-pub stands_refused : {H : Type 0} (stands : H → ℤ → ℤ → Type 0) (r : Rules) (old new : Sketch H) (cell n : ℕ) (U : List Update) (S : List Push) (F : List ℕ)
+pub stands_refused : {H : Type 0} (stands : H → ℤ → ℤ → Type 0) (r : Rules) (old new : PrivateView H) (cell n : ℕ) (U : List Update) (S : List Push) (F : List ℕ)
     → StandsFor stands r old U S F → old.due ≡ Some cell → n ≡ old.counted - 1 → n < length old.bits
     → new.held ≡ old.held → new.threshold ≡ old.threshold → new.counted ≡ old.counted → new.due ≡ None → new.bits ≡ slice_set old.bits n true
     → StandsFor stands r new U S (F ++ n ∷ [])
@@ -156,7 +156,7 @@ sent_by stands r laws values old m h U S tells cells amount k false other x is =
 
 -- the open update is sent
 pub stands_sent : {H : Type 0} (stands : H → ℤ → ℤ → Type 0) (r : Rules) → AreLaws r → HoldsValues stands r
-    → (old new : Sketch H) (cell : ℕ) (h : H) (m : Push) (U : List Update) (S : List Push) (F : List ℕ)
+    → (old new : PrivateView H) (cell : ℕ) (h : H) (m : Push) (U : List Update) (S : List Push) (F : List ℕ)
     → StandsFor stands r old U S F → old.due ≡ Some cell
     → m.update ≡ old.counted - 1 → m.cell ≡ cell → m.amount ≡ r.gap (told_of r cell S) (whole_of r cell U)
     → ((told whole : ℤ) → StandsAt stands old.held cell told whole → stands h whole whole)
@@ -188,7 +188,7 @@ numbers_by r T U S F None h = numbers_within r U S S h.amounts
 numbers_by r T U S F (Some cell) h = λ k d lt. let below = numbers_within r h.before S S h.pushes.amounts k d lt in omega (arith, below, ap length h.parts, length_push h.before h.last)
 
 -- the residue is what joins what the messages tell to what the updates make
-pub residue_is : {H : Type 0} (stands : H → ℤ → ℤ → Type 0) (r : Rules) (p : Sketch H) (cell : ℕ) (U : List Update) (S : List Push) (F : List ℕ)
+pub residue_is : {H : Type 0} (stands : H → ℤ → ℤ → Type 0) (r : Rules) (p : PrivateView H) (cell : ℕ) (U : List Update) (S : List Push) (F : List ℕ)
     → StandsFor stands r p U S F → residue r U S (length U) cell ≡ r.gap (told_of r cell S) (whole_of r cell U)
 unfolding residue
 residue_is stands r p cell U S F was =

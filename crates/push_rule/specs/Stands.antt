@@ -10,7 +10,7 @@ use Rattle.push_history.specs.Pushes.{ArePushes, is_refused}
 
 -- what is held of each cell; the threshold; for how many updates there is room, and how many were counted; the cell
 -- that is due; for each update whether it was refused
-pub record Sketch (Held : Type 0) : Type 0 where
+pub record PrivateView (Held : Type 0) : Type 0 where
   pub held : List Held
   pub threshold : ℕ
   pub room : ℕ
@@ -19,8 +19,8 @@ pub record Sketch (Held : Type 0) : Type 0 where
   pub bits : List Bool
 
 -- how it is stored
-abbrev pub sketch_code : {Held : Type 0} → Coded Held → Coded (Sketch Held)
-sketch_code {Held} code =
+abbrev pub private_code : {Held : Type 0} → Coded Held → Coded (PrivateView Held)
+private_code {Held} code =
     code_by (List Held × (ℕ × (ℕ × (ℕ × (Option ℕ × List Bool)))))
     (coded× (coded_list code) (coded× coded_ℕ (coded× coded_ℕ (coded× coded_ℕ (coded× (coded_option coded_ℕ) (coded_list coded_bool))))))
     (λ s. (s.held, (s.threshold, (s.room, (s.counted, (s.due, s.bits))))))
@@ -45,7 +45,7 @@ pub record Waits (r : Rules) (threshold : ℕ) (updates : List Update) (messages
   pub far : threshold ≤ r.distance (told_of r cell messages) (whole_of r cell updates)
 
 -- the sketch has counted these updates; these messages were sent and these updates refused
-pub record StandsFor {Held : Type 0} (stands : Held → ℤ → ℤ → Type 0) (r : Rules) (p : Sketch Held) (updates : List Update) (messages : List Push) (refused : List ℕ) : Type 0 where
+pub record StandsFor {Held : Type 0} (stands : Held → ℤ → ℤ → Type 0) (r : Rules) (p : PrivateView Held) (updates : List Update) (messages : List Push) (refused : List ℕ) : Type 0 where
   pub all_counted : p.counted ≡ length updates
   pub cells : (cell : ℕ) → StandsAt stands p.held cell (told_of r cell messages) (whole_of r cell updates)
   pub marks : (k : ℕ) → slice_index_or p.bits k false ≡ is_refused k refused

@@ -26,11 +26,11 @@ pub struct Private<K: Kind> {
 
 impl<K: Kind> Model for Private<K> {
     ghost use Rattle.std.specs.Prelude.{◌≡◌, ◌<◌, ◌≤◌, length, ℕ, Some};
-    ghost use Rattle.push_rule.specs.Stands.{Sketch, sketch_code};
+    ghost use Rattle.push_rule.specs.Stands.{PrivateView, private_code};
 
-    ghost Value = { Sketch K.Held };
+    ghost Value = { PrivateView K.Held };
 
-    ghost coded = { sketch_code K.Held.code };
+    ghost coded = { private_code K.Held.code };
 
     ghost view = { λ p. record { held = p.held.items; threshold = p.threshold; room = p.room; counted = p.counted; due = p.due; bits = p.bits } };
 

@@ -11,7 +11,7 @@ use Rattle.hash_rows.specs.Amounts.{total_amount}
 use Rattle.hash_rows.specs.Rules.{Rules, rules_of}
 use Rattle.hash_rows.specs.Sequential.{sequential_table}
 use Rattle.hash_rows.specs.Sketches.{rows_of}
-use Rattle.hash_rows.specs.Tables.{Figures, used_in}
+use Rattle.hash_rows.specs.Tables.{TableView, used_in}
 use Rattle.heavy_keys.specs.FinalHeavy.{AreHeaviest}
 use Rattle.push_history.specs.Share.{zero_key}
 use Rattle.octo_text.specs.declared.report.Report.{Report}
@@ -38,7 +38,7 @@ Finds CountMin estimate_of options packets distinct heavy flows = HeavyFlows est
 Finds CountSketch estimate_of options packets distinct heavy flows = HeavyFlows estimate_of options packets distinct heavy flows
 
 -- the report tells what was read, and what the table says by the rules
-pub record Reports (rules : Rules) (table : Figures) (packets : List Packet) (records : ℕ) (skipped : Tallies) (cut : ℕ) (options : Options) (report : Report) : Type 0 where
+pub record Reports (rules : Rules) (table : TableView) (packets : List Packet) (records : ℕ) (skipped : Tallies) (cut : ℕ) (options : Options) (report : Report) : Type 0 where
   pub sketch : report.sketch ≡ options.sketch
   pub shape : report.shape ≡ options.shape
   pub amount : report.amount ≡ options.amount

@@ -1,7 +1,7 @@
 ghost use Rattle.std.specs.Prelude.{◌≡◌, [], pos, All, IfSome};
 ghost use Rattle.std.specs.Thread.{IsSync};
 ghost use Rattle.live_view.specs.Copies.{HasRoomFor};
-ghost use Rattle.live_view.specs.Sights.{layout_for};
+ghost use Rattle.live_view.specs.Views.{layout_for};
 
 use count_min::CountMin;
 use hash_rows::{Answer, Push, Shape};

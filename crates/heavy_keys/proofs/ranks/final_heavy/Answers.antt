@@ -1,11 +1,9 @@
-use Rattle.std.proofs.Common.{◌≡◌, ℤ, List, map, subst, w64}
+use Rattle.std.proofs.Common.{◌≡◌, ◌≤◌, ℕ, ℤ, List, map, take, take_all, length, subst, sym, ◌∙◌, arith, w64}
 use Rattle.std.proofs.Math.Facts.{to_z-of_z}
-use Rattle.std.proofs.lemmas.Result.{IfOk-weaker}
 use Rattle.packet_key.specs.declared.key.FlowKey.{FlowKey}
 use Rattle.hash_rows.specs.declared.shape.Packet.{Packet}
-use Rattle.heavy_keys.specs.Ranks.{AreHeavy, Rank, flow_of}
-use Rattle.heavy_keys.specs.FinalHeavy.{IsFinalHeavy}
-use Rattle.heavy_keys.proofs.RankLemmas.{final_flows, heavy_alike}
+use Rattle.hash_rows.specs.declared.shape.Flow.{Flow}
+use Rattle.heavy_keys.specs.FinalHeavy.{AreHeaviest, IsFinalHeavy}
 use Rattle.heavy_keys.proofs.ranks.final_heavy.Goals as goal
 
 pub returns : goal.returns
@@ -13,8 +11,7 @@ returns g c =
     let estimate_of : FlowKey → ℤ = g.K.Kind.rules.estimate c.args.table.now.shape c.args.table.now.cells in
     let keys : List FlowKey = map (λ (p : Packet). p.key) c.args.packets.now in
     let exact = to_z-of_z {w = w64} {z = c.args.least} c.ranges.least in
-    let heavy : AreHeavy estimate_of c.args.least keys c.in_ok-ranks.ranks.items = subst (λ z. AreHeavy estimate_of z keys c.in_ok-ranks.ranks.items) exact c.in_ok-ranks.ensures in
-    let ranks : List Rank = c.put_in_order.new.ranks.items in
-    IfOk-weaker c.flows_by_rank.result (λ flows. flows.items ≡ map flow_of ranks) (λ flows. IsFinalHeavy estimate_of c.args.least keys flows.items)
-    (λ flows are. final_flows estimate_of c.args.least keys ranks flows.items are c.put_in_order.ensures.sorted
-    (heavy_alike estimate_of c.args.least keys c.in_ok-ranks.ranks.items ranks c.put_in_order.ensures.sound c.put_in_order.ensures.whole heavy)) c.flows_by_rank.ensures
+    let h : AreHeaviest estimate_of c.args.least keys 4294967295 c.in_ok-count.field-0.count c.in_ok-count.field-0.flows.items =
+      subst (λ z. AreHeaviest estimate_of z keys 4294967295 c.in_ok-count.field-0.count c.in_ok-count.field-0.flows.items) exact c.in_ok-count.ensures in
+    let few : length h.all ≤ 4294967295 = omega (arith, h.number, c.if-count-from.false) in
+    subst (λ (fs : List Flow). IsFinalHeavy estimate_of c.args.least keys fs) (sym (h.first ∙ take_all 4294967295 h.all few)) h.all_heavy

@@ -2,7 +2,7 @@ use Rattle.std.proofs.Common.{◌≡◌, ◌∙◌, ◌<◌, ap, length, arith, 
 use Rattle.listed.specs.Listed.{Listed}
 use Rattle.hash_rows.specs.declared.shape.Update.{Update}
 use Rattle.hash_rows.specs.Shapes.{size_of}
-use Rattle.push_rule.specs.Stands.{Sketch}
+use Rattle.push_rule.specs.Stands.{PrivateView}
 use Rattle.lag_core.specs.Lanes.{Queue, fresh_lane}
 use Rattle.lag_core.specs.Workers.{IsFreshSketch}
 use Rattle.lag_core.proofs.Sizes.{zip_grown}
@@ -14,7 +14,7 @@ workers-preserved g c =
     let row = c.row-item.result in
     let below : c.workers.row-index < length rows = omega (arith, c.workers-test.true, ap (λ (l : List (Listed Update)). length l) c.as_slice-row-items.ensures) in
     let is = c.row-item.is ∙ ap (λ (l : List (Listed Update)). get_or l c.workers.row-index row) c.as_slice-row-items.ensures in (
-      zip_grown (λ (row : Listed Update) (p : Sketch g.row.K-Held.Denot). IsFreshSketch g.K.Kind.stands g.K.Kind.rules (size_of c.args.shape.now) c.args.threshold row.items p)
+      zip_grown (λ (row : Listed Update) (p : PrivateView g.row.K-Held.Denot). IsFreshSketch g.K.Kind.stands g.K.Kind.rules (size_of c.args.shape.now) c.args.threshold row.items p)
           rows c.workers.row-index row c.workers.sketches.items c.push_item.new.items.items c.in_ok-sketch.sketch below is c.workers.invariant.0
           (record {
             sketch = c.in_ok-sketch.ensures.fresh;

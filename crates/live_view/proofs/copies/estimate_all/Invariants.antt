@@ -1,5 +1,5 @@
 use Rattle.std.proofs.Common.{◌≡◌, length, take}
-use Rattle.live_view.specs.Copies.{estimates_in}
+use Rattle.live_state.specs.Copies.{estimates_in}
 use Rattle.live_view.proofs.copies.estimate_all.Given as goal
 
 abbrev pub invariant-loop-place : goal.invariant-loop-place

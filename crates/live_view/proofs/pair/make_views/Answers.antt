@@ -2,9 +2,9 @@ use Rattle.std.proofs.Common.{rules, ◌≡◌, [], ◌∷◌, ◌++◌, sym, su
 use Rattle.std.specs.Prelude.{All}
 use Rattle.std.proofs.lemmas.List.Elements.{All-append, All-cons, All-nil}
 use Rattle.logbook.specs.Pages.{Book}
-use Rattle.live_view.specs.declared.layout.Layout.{Layout}
-use Rattle.live_view.specs.Fold.{Fold, IsFoldOf}
-use Rattle.live_view.specs.Sights.{Desk, Glass, Page, layout_for}
+use Rattle.live_state.specs.declared.layout.Layout.{Layout}
+use Rattle.live_state.specs.Fold.{StateView, IsFoldOf}
+use Rattle.live_view.specs.Views.{WriterView, ReaderView, PublishedView, layout_for}
 use Rattle.live_view.proofs.Lists.{one_longer}
 use Rattle.live_view.proofs.Turns.{empty, opens}
 use Rattle.live_view.proofs.pair.make_views.Goals as goal
@@ -14,15 +14,15 @@ new-requires-4-clause-rule g c = opens g.K.Kind.rules _ (layout_for c.args.shape
 
 pub over-writer-requires-clause-zero : goal.over-writer-requires-clause-zero
 over-writer-requires-clause-zero g c κs within =
-    let figures = ap (λ (p : Page). p.figures) c.in-Ok.ensures.0 ∙ c.in_ok-first.ensures.figures in
-    subst (λ (s : Fold). IsFoldOf g.K.Kind.rules s []) (sym figures) (empty g.K.Kind.rules _)
+    let figures = ap (λ (p : PublishedView). p.figures) c.in-Ok.ensures.0 ∙ c.in_ok-first.ensures.figures in
+    subst (λ (s : StateView). IsFoldOf g.K.Kind.rules s []) (sym figures) (empty g.K.Kind.rules _)
 
 pub loop-preserved : goal.loop-preserved
 loop-preserved g c =
     let h = c.loop.invariant in
-    let new : Book × Layout → Glass → Type 0 = λ p v. (v.book ≡ p.0) × (v.layout ≡ p.1) × (v.known ≡ []) × (v.told ≡ []) in
-    let of : Desk → Book × Layout = λ w. (w.book, w.layout) in
-    let P : Glass → Type 0 = new (of c.view-view.new.self) in
+    let new : Book × Layout → ReaderView → Type 0 = λ p v. (v.book ≡ p.0) × (v.layout ≡ p.1) × (v.known ≡ []) × (v.told ≡ []) in
+    let of : WriterView → Book × Layout = λ w. (w.book, w.layout) in
+    let P : ReaderView → Type 0 = new (of c.view-view.new.self) in
     let same : of c.loop.writer ≡ of c.view-view.new.self = ap of (sym c.view-view.ensures.same) in
     let old : All P c.loop.views.items = subst (λ (p : Book × Layout). All (new p) c.loop.views.items) same h.6 in
     let v = c.view-view.ensures.view in
@@ -32,8 +32,8 @@ loop-preserved g c =
       one_longer c.loop.views.items c.push.new.self.items c.view-view.result c.loop.counter c.push.ensures.items h.0,
       search rules,
       c.push.ensures.room ∙ h.2,
-      ap (λ (w : Desk). w.published) kept ∙ h.3,
-      ap (λ (w : Desk). w.pending) kept ∙ h.4,
-      ap (λ (w : Desk). w.layout) kept ∙ h.5,
+      ap (λ (w : WriterView). w.published) kept ∙ h.3,
+      ap (λ (w : WriterView). w.pending) kept ∙ h.4,
+      ap (λ (w : WriterView). w.layout) kept ∙ h.5,
       subst (All P) (sym c.push.ensures.items) all,
     )

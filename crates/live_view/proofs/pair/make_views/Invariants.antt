@@ -1,6 +1,6 @@
 use Rattle.std.proofs.Common.{◌≡◌, ◌≤◌, [], length}
 use Rattle.std.specs.Prelude.{All}
-use Rattle.live_view.specs.Sights.{layout_for}
+use Rattle.live_view.specs.Views.{layout_for}
 use Rattle.live_view.proofs.pair.make_views.Given as goal
 
 abbrev pub invariant-loop : goal.invariant-loop

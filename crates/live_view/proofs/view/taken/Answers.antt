@@ -1,5 +1,5 @@
 use Rattle.std.proofs.Common.{◌≡◌, length, ap, ◌∙◌, arith}
-use Rattle.live_view.specs.Sights.{Sight}
+use Rattle.live_view.specs.Views.{History}
 use Rattle.live_view.proofs.Folds.{count_is}
 use Rattle.live_view.proofs.view.taken.Goals as goal
 
@@ -9,7 +9,7 @@ begins-requires-clause-shorter g c =
     let told = c.args.told.now in
     let found : c.folded.result ≡ page.figures.folded = c.folded.ensures ∙ c.tally.ensures.folded in
     let most : c.folded-2.result ≡ length told.log = c.folded-2.ensures in
-    let one : length c.stamp.result.now.log ≡ length told.log = ap (λ (s : Sight). length s.log) c.stamp.ensures in
-    let two : length c.stamp-2.result.now.log ≡ length page.sight.log = ap (λ (s : Sight). length s.log) c.stamp-2.ensures in
-    let count = count_is g.K.Kind.rules page.figures page.sight.log c.requires.sums in
+    let one : length c.stamp.result.now.log ≡ length told.log = ap (λ (s : History). length s.log) c.stamp.ensures in
+    let two : length c.stamp-2.result.now.log ≡ length page.history.log = ap (λ (s : History). length s.log) c.stamp-2.ensures in
+    let count = count_is g.K.Kind.rules page.figures page.history.log c.requires.sums in
     omega (arith, found, most, one, two, count, c.if-folded.false)

@@ -1,6 +1,6 @@
 use Rattle.std.proofs.Common.{◌≡◌, ◌≤◌, ◌*◌, ℕ, length}
 use Rattle.push_history.specs.LagRun.{Terms, Worker}
-use Rattle.counting.specs.Keeps.{Keeps}
+use Rattle.push_rule.specs.Keeps.{Keeps}
 use Rattle.octo_engine.specs.Counts.{HasShare, IsFit}
 use Rattle.octo_engine.specs.Parts.{AreEnds, HasRun}
 use Rattle.octo_engine.proofs.block.run_block.Given as goal

@@ -1,7 +1,7 @@
 use Rattle.std.proofs.Common.{rules, ◌≡◌, ◌∙◌, sym, ap, min, List}
 use Rattle.std.specs.Prelude.{slice_range}
 use Rattle.hash_rows.specs.declared.shape.Push.{Push}
-use Rattle.counting.specs.Desk.{in_lane}
+use Rattle.push_rule.specs.Counters.{in_lane}
 use Rattle.octo_engine.proofs.Running.{own_is, given_is}
 use Rattle.octo_engine.proofs.block.run_round.Goals as goal
 

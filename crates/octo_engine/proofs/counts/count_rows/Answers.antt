@@ -2,7 +2,7 @@ use Rattle.std.proofs.Common.{rules, ◌≡◌, ◌∙◌, ◌<◌, ◌≤◌, �
 use Rattle.std.proofs.lemmas.Int.{to_z-of_z}
 use mir.Val.{SFits}
 use Rattle.hash_rows.specs.Rules.{Rules}
-use Rattle.hash_rows.specs.Shapes.{place_of}
+use Rattle.hash_rows.specs.Shapes.{cell_of}
 use Rattle.push_history.specs.Rounds.{is_waits}
 use Rattle.octo_engine.specs.Counts.{HasCounted, HasMoved}
 use Rattle.octo_engine.proofs.Stepping.{counted_more, counted_ends, moved_one, moved_row, next_is}
@@ -21,7 +21,7 @@ returns-then-is_waiting-clause-keeps g c = λ t w x same keeps next.
     let fits : SFits w64 c.value_in_row.result = search rules in
     let value = to_z-of_z w64 c.value_in_row.result fits ∙ c.value_in_row.ensures ∙ ap (λ (r : Rules). r.value c.args.shape.now c.args.packet.now c.loop-row.row) (sym same) in
     let hash = c.hash_in_row-hash.ensures c.args.packet.now.key c.key_hash-key_hash.ensures in
-    let cell : c.cell_in_row.result ≡ place_of c.args.shape.now c.args.packet.now.key c.loop-row.row = c.cell_in_row.ensures.place c.args.packet.now.key hash in
+    let cell : c.cell_in_row.result ≡ cell_of c.args.shape.now c.args.packet.now.key c.loop-row.row = c.cell_in_row.ensures.place c.args.packet.now.key hash in
     let before = c.loop-row.invariant.1 t w x same keeps next in
     let le : c.args.first ≤ c.loop-row.row = search rules in
     let at = next_is t w x c.args.shape.now c.args.packet.now c.args.position c.args.first c.args.last next c.loop-row.row le c.loop-row-test.true before.now (before.counted refl) c.cell_in_row.result _ cell value in
@@ -36,7 +36,7 @@ pub loop-row-preserved : goal.loop-row-preserved
 loop-row-preserved g c =
     let fits : SFits w64 c.value_in_row.result = search rules in
     let hash = c.hash_in_row-hash.ensures c.args.packet.now.key c.key_hash-key_hash.ensures in
-    let cell : c.cell_in_row.result ≡ place_of c.args.shape.now c.args.packet.now.key c.loop-row.row = c.cell_in_row.ensures.place c.args.packet.now.key hash in
+    let cell : c.cell_in_row.result ≡ cell_of c.args.shape.now c.args.packet.now.key c.loop-row.row = c.cell_in_row.ensures.place c.args.packet.now.key hash in
     let le : c.args.first ≤ c.loop-row.row = search rules in
     let not : is_waits c.count.result ≡ false = sym c.is_waiting.ensures ∙ c.if-is_waiting.false in
     let one = moved_one c.loop-row.counter c.count.new.self (is_waits c.count.result) c.count.ensures.same c.count.ensures.lane c.count.ensures.grows c.count.ensures.counted in

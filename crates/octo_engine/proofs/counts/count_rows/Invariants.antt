@@ -1,6 +1,6 @@
 use Rattle.std.proofs.Common.{◌≡◌, ◌-◌, ℕ, false}
 use Rattle.push_history.specs.LagRun.{Terms, Worker}
-use Rattle.counting.specs.Keeps.{Keeps}
+use Rattle.push_rule.specs.Keeps.{Keeps}
 use Rattle.octo_engine.specs.Counts.{AreNext, HasCounted, HasMoved}
 use Rattle.octo_engine.proofs.counts.count_rows.Given as goal
 

@@ -1,6 +1,6 @@
 use Rattle.std.proofs.Common.{◌≡◌, ◌≤◌, ◌<◌, ◌+◌, ◌*◌, ◌-◌, ℕ, false, length}
 use Rattle.push_history.specs.LagRun.{Terms, Worker}
-use Rattle.counting.specs.Keeps.{Keeps}
+use Rattle.push_rule.specs.Keeps.{Keeps}
 use Rattle.octo_engine.specs.Counts.{HasCounted, HasMoved, HasShare, IsFit}
 use Rattle.octo_engine.proofs.counts.count_updates.Given as goal
 

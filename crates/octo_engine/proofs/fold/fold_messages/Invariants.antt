@@ -1,6 +1,6 @@
 use Rattle.std.proofs.Common.{◌≡◌, take}
 use Rattle.std.specs.Prelude.{fold}
-use Rattle.live_view.specs.Fold.{absorbed}
+use Rattle.live_state.specs.Fold.{absorbed}
 use Rattle.octo_engine.proofs.fold.fold_messages.Given as goal
 
 abbrev pub invariant-loop-message : goal.invariant-loop-message

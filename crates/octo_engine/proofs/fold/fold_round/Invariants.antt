@@ -1,7 +1,7 @@
 use Rattle.std.proofs.Common.{◌≡◌, take}
 use Rattle.std.specs.Prelude.{fold}
 use Rattle.std.specs.List.{flat_map}
-use Rattle.live_view.specs.Fold.{absorbed}
+use Rattle.live_state.specs.Fold.{absorbed}
 use Rattle.octo_engine.specs.Parts.{messages_in}
 use Rattle.octo_engine.proofs.fold.fold_round.Given as goal
 

@@ -1,5 +1,5 @@
 use Rattle.std.proofs.Common.{◌≡◌, ◌∙◌, ◌+◌, ap, subst, arith}
-use Rattle.live_view.specs.Fold.{state_after}
+use Rattle.live_state.specs.Fold.{state_after}
 use Rattle.round_law.specs.OwnRounds.{folded_after}
 use Rattle.octo_engine.specs.Looks.{AreLooks, layout_in}
 use Rattle.octo_engine.proofs.Rounding.{state_more}

@@ -3,7 +3,7 @@ use Rattle.hash_rows.specs.Shapes.{size_of}
 use Rattle.hash_rows.specs.Tables.{value_at}
 use Rattle.push_history.specs.LagRun.{Terms, Worker, updates_by}
 use Rattle.push_history.specs.Residue.{residue}
-use Rattle.counting.specs.Keeps.{Keeps}
+use Rattle.push_rule.specs.Keeps.{Keeps}
 use Rattle.octo_engine.proofs.settle.join_residue.Given as goal
 
 abbrev pub invariant-loop-cell : goal.invariant-loop-cell

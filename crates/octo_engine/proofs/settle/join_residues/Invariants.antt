@@ -1,7 +1,7 @@
 use Rattle.std.proofs.Common.{◌≡◌, ◌<◌, ℕ, length, slice_index_or}
 use Rattle.hash_rows.specs.Shapes.{size_of}
 use Rattle.push_history.specs.LagRun.{Terms, Worker}
-use Rattle.counting.specs.Keeps.{Keeps}
+use Rattle.push_rule.specs.Keeps.{Keeps}
 use Rattle.octo_engine.specs.Residues.{HasJoined}
 use Rattle.octo_engine.proofs.settle.join_residues.Given as goal
 

@@ -2,7 +2,7 @@ use Rattle.std.proofs.Common.{rules, ◌≡◌, ◌∙◌, ◌<◌, ◌^◌, sym
 use Rattle.std.proofs.lemmas.Int.{to_z-of_z}
 use mir.Val.{SFits}
 use Rattle.hash_rows.specs.declared.shape.Shape.{Shape}
-use Rattle.hash_rows.specs.Shapes.{size_of, place_of}
+use Rattle.hash_rows.specs.Shapes.{size_of, cell_of}
 use Rattle.reports.proofs.Adding.{reached_none, reached_put, added_all}
 use Rattle.reports.proofs.one_table.add_packet.Goals as goal
 
@@ -26,7 +26,7 @@ loop-row-preserved g c =
     let fits : SFits w64 c.value_in_row-amount.result = search rules in
     let value = to_z-of_z w64 c.value_in_row-amount.result fits ∙ c.value_in_row-amount.ensures in
     let hash = c.hash_in_row-hash.ensures c.args.packet.now.key c.key_hash-key_hash.ensures in
-    let cell : c.cell_in_row.result ≡ place_of c.shape-shape.result c.args.packet.now.key c.loop-row.row = c.cell_in_row.ensures.place c.args.packet.now.key hash in (
+    let cell : c.cell_in_row.result ≡ cell_of c.shape-shape.result c.args.packet.now.key c.loop-row.row = c.cell_in_row.ensures.place c.args.packet.now.key hash in (
       ap (λ t. t.shape) c.put.ensures ∙ c.loop-row.invariant.0,
       λ packets was. c.put.ensures ∙ reached_put g.K.Kind.rules c.shape-shape.result packets c.args.packet.now c.loop-row.row _ _ _ (c.loop-row.invariant.1 packets was) cell c.cell_in_row.ensures.within value,
     )

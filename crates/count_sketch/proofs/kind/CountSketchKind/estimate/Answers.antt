@@ -4,7 +4,7 @@ use Rattle.std.proofs.lemmas.Int.{to_z-of_z}
 use Rattle.std.proofs.lemmas.List.{take_more_set}
 use Rattle.std.proofs.lemmas.List.FromFn.{map-range_with_len_more}
 use Rattle.std.proofs.Math.ListN.{length-set}
-use Rattle.hash_rows.specs.Shapes.{place_of}
+use Rattle.hash_rows.specs.Shapes.{cell_of}
 use Rattle.hash_rows.specs.Sketches.{signed_in_row, signed_cells, lower_median_of, count_sketch_estimate, count_sketch_value}
 use Rattle.hash_rows.specs.Rules.{sums}
 use Rattle.hash_rows.specs.Tables.{value_at}
@@ -21,13 +21,13 @@ loop-row-preserved c =
     let values = c.loop-row.values in
     let cell = c.cell_in_row-cell.result in
     let hash = c.hash_in_row-hash.ensures key c.key_hash-base.ensures in
-    let signed_of : ℕ → ℤ = λ r. signed_in_row key r (value_at cells (place_of shape key r)) in
+    let signed_of : ℕ → ℤ = λ r. signed_in_row key r (value_at cells (cell_of shape key r)) in
     let within : row < length values = omega (arith, c.loop-row.invariant.0) in
     let cell_fits : FitsSigned w64 (value_at cells cell) =
     fits_sum _ (value_at_any (sums count_sketch_value count_sketch_estimate) count_sketch_lawful cells cell c.requires.values) in
     let fits : FitsSigned w64 c.signed.result = search rules in
-    let place : cell ≡ place_of shape key row = c.cell_in_row-cell.ensures.place key hash in
-    let cell_is : to_z w64 (of_z w64 (get_or cells cell (pos 0))) ≡ value_at cells (place_of shape key row) =
+    let place : cell ≡ cell_of shape key row = c.cell_in_row-cell.ensures.place key hash in
+    let cell_is : to_z w64 (of_z w64 (get_or cells cell (pos 0))) ≡ value_at cells (cell_of shape key row) =
     to_z-of_z w64 (value_at cells cell) cell_fits ∙ ap (value_at cells) place in
     let value : to_z w64 (of_z w64 c.signed.result) ≡ signed_of row =
     to_z-of_z w64 c.signed.result fits ∙ c.signed.ensures key row hash ∙ ap (signed_in_row key row) cell_is in (
@@ -43,7 +43,7 @@ returns c =
     let shape = c.args.shape.now in
     let cells = c.args.cells.now in
     let key = c.args.key.now in
-    let signed_of : ℕ → ℤ = λ r. signed_in_row key r (value_at cells (place_of shape key r)) in
+    let signed_of : ℕ → ℤ = λ r. signed_in_row key r (value_at cells (cell_of shape key r)) in
     let fits : FitsSigned w64 c.lower_median.result = search rules in
     let all : c.loop-row.row ≡ shape.rows = omega arith in
     let cells_are : take shape.rows c.loop-row.values ≡ map signed_of (range_with_len 0 shape.rows) =

@@ -7,7 +7,7 @@ use Rattle.hash_rows.specs.Shapes.{size_of}
 use Rattle.heavy_keys.specs.Noted.{HeavyTable}
 use Rattle.push_history.specs.LagRun.{lag_run}
 use Rattle.push_history.specs.Updates.{HoldValues}
-use Rattle.push_rule.specs.Stands.{Sketch}
+use Rattle.push_rule.specs.Stands.{PrivateView}
 use Rattle.lag_core.specs.Lags.{Core, workers_of}
 use Rattle.lag_core.specs.Lanes.{Queue, fresh_lane}
 use Rattle.lag_core.specs.Workers.{IsFreshSketch, terms_of}
@@ -42,7 +42,7 @@ invariant_of-result g c =
     (λ w row p row_at p_at.
     let back = map_back (λ (l : Listed Entry). l.items) rows w row row_at in
     subst (λ (us : List Entry). IsFreshSketch g.K.Kind.stands r (size_of c.args.shape) c.args.threshold us p) back.2
-    (zip_at (λ (l : Listed Entry) (q : Sketch g.row.K-Held.Denot). IsFreshSketch g.K.Kind.stands r (size_of c.args.shape) c.args.threshold l.items q)
+    (zip_at (λ (l : Listed Entry) (q : PrivateView g.row.K-Held.Denot). IsFreshSketch g.K.Kind.stands r (size_of c.args.shape) c.args.threshold l.items q)
     rows c.in_ok-sketches.sketches.items w back.0 p c.in_ok-sketches.ensures.sketches back.1 p_at))
     (λ w q q_at.
     let below : w < length rows = omega (arith, slice_get_within c.in_ok-sketches.lanes.items w q q_at, AllZip-long _ rows c.in_ok-sketches.lanes.items c.in_ok-sketches.ensures.lanes) in

@@ -2,10 +2,10 @@ use Rattle.std.proofs.Common.{rules, ◌≡◌, ◌<◌, length, List, ℤ, true
 use mir.Val.{SFits}
 use Rattle.hash_rows.specs.Rules.{AreValues}
 use Rattle.hash_rows.specs.Shapes.{size_of}
-use Rattle.hash_rows.specs.Tables.{Figures}
+use Rattle.hash_rows.specs.Tables.{TableView}
 use Rattle.hash_rows.proofs.Values.{values_joined}
 use Rattle.live_view.specs.Rule.{turned}
-use Rattle.live_view.specs.Tallies.{counted, key_noted_in, table_noted}
+use Rattle.live_state.specs.Tallies.{counted, key_noted_in, table_noted}
 use Rattle.live_view.proofs.Turning.{noted_keyed, noted_not, turned_as, joined_cells}
 use Rattle.live_view.proofs.published.PublishedAbsorbEntry.absorb_first.Goals as goal
 
@@ -66,7 +66,7 @@ returns-then-KEYED-clause-absorbed g c =
     let worker : m.worker < length t.front = search rules in
     let cell : m.cell < size_of c.self.inside.shape = subst (λ n. m.cell < n) c.self.invariant.1 within in
     let counted_is : c.count.new.self ≡ counted t m.worker m.update = c.count.ensures in
-    let table : Figures = record { shape = c.self.inside.shape; cells = c.set.new.self.items } in
+    let table : TableView = record { shape = c.self.inside.shape; cells = c.set.new.self.items } in
     let keyed : rules_of_kind.keyed ≡ true = sym g.met.K.Kind.is_keyed ∙ (sym c.KEYED.ensures ∙ c.if-KEYED.true) in
     let noted : c.note.new.self ≡ key_noted_in c.count.new.self m.key c.estimate-estimate.result = search rules in
     let found : c.estimate-estimate.result ≡ rules_of_kind.estimate c.self.inside.shape c.set.new.self.items m.key = c.estimate-estimate.ensures ∙ ap (λ cells. rules_of_kind.estimate c.self.inside.shape cells m.key) c.as_slice.ensures in
@@ -89,7 +89,7 @@ returns-else-KEYED-clause-absorbed g c =
     let worker : m.worker < length t.front = search rules in
     let cell : m.cell < size_of c.self.inside.shape = subst (λ n. m.cell < n) c.self.invariant.1 within in
     let counted_is : c.count.new.self ≡ counted t m.worker m.update = c.count.ensures in
-    let table : Figures = record { shape = c.self.inside.shape; cells = c.set.new.self.items } in
+    let table : TableView = record { shape = c.self.inside.shape; cells = c.set.new.self.items } in
     let keyed : rules_of_kind.keyed ≡ false = sym g.met.K.Kind.is_keyed ∙ (sym c.KEYED.ensures ∙ c.if-KEYED.false) in
     let tally = noted_not rules_of_kind table c.count.new.self m.key keyed ∙ ap (λ u. table_noted rules_of_kind table u m.key) counted_is in
     turned_as rules_of_kind c.self.inside.shape items c.set.new.self.items t c.count.new.self c.self.inside.stamp c.again.result c.args.operation.now worker cell value now tally c.again.ensures

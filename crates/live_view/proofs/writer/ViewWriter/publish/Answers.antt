@@ -1,6 +1,6 @@
 use Rattle.std.proofs.Common.{ap, ◌∙◌, drop, sym, ◌++◌}
-use Rattle.live_view.specs.Sights.{Page}
-use Rattle.live_view.proofs.Desks.{published, grown}
+use Rattle.live_view.specs.Views.{PublishedView}
+use Rattle.live_view.proofs.Writers.{published, grown}
 use Rattle.live_view.proofs.Turns.{turned_all, same_layout}
 use Rattle.live_view.proofs.writer.ViewWriter.publish.Goals as goal
 
@@ -18,7 +18,7 @@ returns-clause-pair g c =
     let h = c.self.invariant.0 in
     let p = c.publish_in.ensures in
     let all = p.shown ∙ turned_all g.K.Kind.rules w.desk.shown.value (drop w.behind w.log.items) h.chain in
-    (ap (λ (x : Page). x.sight.book) all ∙ ap (λ d. d.book) c.self.view_is, same_layout g.K.Kind.rules w.desk.shown.value _ (drop w.behind w.log.items) h.chain p.shown ∙ ap (λ d. d.layout) c.self.view_is)
+    (ap (λ (x : PublishedView). x.history.book) all ∙ ap (λ d. d.book) c.self.view_is, same_layout g.K.Kind.rules w.desk.shown.value _ (drop w.behind w.log.items) h.chain p.shown ∙ ap (λ d. d.layout) c.self.view_is)
 
 pub returns-clause-published : goal.returns-clause-published
 returns-clause-published g c =

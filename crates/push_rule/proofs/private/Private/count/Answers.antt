@@ -4,7 +4,7 @@ use Rattle.hash_rows.specs.declared.shape.Update.{Update}
 use Rattle.push_history.specs.Pushes.{ArePushes}
 use Rattle.push_history.specs.Told.{told_of}
 use Rattle.push_history.specs.Whole.{whole_of}
-use Rattle.push_rule.specs.Stands.{Sketch, StandsFor, StandsAt, Waits}
+use Rattle.push_rule.specs.Stands.{PrivateView, StandsFor, StandsAt, Waits}
 use Rattle.push_history.proofs.Growing.{pushes_counted}
 use Rattle.push_rule.proofs.Standing.{stands_counted, whole_own}
 use Rattle.push_rule.proofs.private.Private.count.Goals as goal
@@ -13,14 +13,14 @@ pub returns-then-distance-self-clause-stands : goal.returns-then-distance-self-c
 returns-then-distance-self-clause-stands g c = λ packet key U S F closed.
     let stands = g.K.Kind.stands in
     let r = g.K.Kind.rules in
-    let old : Sketch g.row.K-Held.Denot = record { held = c.self.inside.held.items; threshold = c.self.inside.threshold; room = c.self.inside.room; counted = c.self.inside.counted; due = c.self.inside.due; bits = c.self.inside.bits } in
-    let was : StandsFor stands r old U S F = subst (λ (p : Sketch g.row.K-Held.Denot). StandsFor stands r p U S F) (sym c.self.view_is) closed in
+    let old : PrivateView g.row.K-Held.Denot = record { held = c.self.inside.held.items; threshold = c.self.inside.threshold; room = c.self.inside.room; counted = c.self.inside.counted; due = c.self.inside.due; bits = c.self.inside.bits } in
+    let was : StandsFor stands r old U S F = subst (λ (p : PrivateView g.row.K-Held.Denot). StandsFor stands r p U S F) (sym c.self.view_is) closed in
     let u : Update = record { packet = packet; key = key; cell = c.args.cell; value = c.args.value } in
     let value_is : to_z w64 (of_z w64 c.args.value) ≡ c.args.value = to_z-of_z w64 c.args.value c.ranges.value in
     let counts : (told whole : ℤ) → StandsAt stands old.held c.args.cell told whole → stands c.counted-held.result told (r.join whole c.args.value) =
     λ told whole at. subst (λ (v : ℤ). stands c.counted-held.result told (r.join whole v)) value_is
     (c.counted-held.ensures told whole (subst (λ (v : ℤ). r.is_value v ≡ true) (sym value_is) c.requires.value) (at c.get.result.now c.get.ensures)) in
-    let idle : c.self.inside.due ≡ None = ap (λ (p : Sketch g.row.K-Held.Denot). p.due) c.self.view_is ∙ c.requires.idle in
+    let idle : c.self.inside.due ≡ None = ap (λ (p : PrivateView g.row.K-Held.Denot). p.due) c.self.view_is ∙ c.requires.idle in
     let pushes : ArePushes r old.threshold U S F = subst (λ (o : Option ℕ). MatchOption o (ArePushes r old.threshold U S F) (Waits r old.threshold U S F)) idle was.pushes in
     let distance_is : r.distance (told_of r u.cell S) (whole_of r u.cell (U ++ u ∷ [])) ≡ c.unsent-distance.result.0 =
     ap (r.distance (told_of r u.cell S)) (whole_own r U u)
@@ -32,14 +32,14 @@ pub returns-else-distance-self-clause-stands : goal.returns-else-distance-self-c
 returns-else-distance-self-clause-stands g c = λ packet key U S F closed.
     let stands = g.K.Kind.stands in
     let r = g.K.Kind.rules in
-    let old : Sketch g.row.K-Held.Denot = record { held = c.self.inside.held.items; threshold = c.self.inside.threshold; room = c.self.inside.room; counted = c.self.inside.counted; due = c.self.inside.due; bits = c.self.inside.bits } in
-    let was : StandsFor stands r old U S F = subst (λ (p : Sketch g.row.K-Held.Denot). StandsFor stands r p U S F) (sym c.self.view_is) closed in
+    let old : PrivateView g.row.K-Held.Denot = record { held = c.self.inside.held.items; threshold = c.self.inside.threshold; room = c.self.inside.room; counted = c.self.inside.counted; due = c.self.inside.due; bits = c.self.inside.bits } in
+    let was : StandsFor stands r old U S F = subst (λ (p : PrivateView g.row.K-Held.Denot). StandsFor stands r p U S F) (sym c.self.view_is) closed in
     let u : Update = record { packet = packet; key = key; cell = c.args.cell; value = c.args.value } in
     let value_is : to_z w64 (of_z w64 c.args.value) ≡ c.args.value = to_z-of_z w64 c.args.value c.ranges.value in
     let counts : (told whole : ℤ) → StandsAt stands old.held c.args.cell told whole → stands c.counted-held.result told (r.join whole c.args.value) =
     λ told whole at. subst (λ (v : ℤ). stands c.counted-held.result told (r.join whole v)) value_is
     (c.counted-held.ensures told whole (subst (λ (v : ℤ). r.is_value v ≡ true) (sym value_is) c.requires.value) (at c.get.result.now c.get.ensures)) in
-    let idle : c.self.inside.due ≡ None = ap (λ (p : Sketch g.row.K-Held.Denot). p.due) c.self.view_is ∙ c.requires.idle in
+    let idle : c.self.inside.due ≡ None = ap (λ (p : PrivateView g.row.K-Held.Denot). p.due) c.self.view_is ∙ c.requires.idle in
     let pushes : ArePushes r old.threshold U S F = subst (λ (o : Option ℕ). MatchOption o (ArePushes r old.threshold U S F) (Waits r old.threshold U S F)) idle was.pushes in
     let distance_is : r.distance (told_of r u.cell S) (whole_of r u.cell (U ++ u ∷ [])) ≡ c.unsent-distance.result.0 =
     ap (r.distance (told_of r u.cell S)) (whole_own r U u)

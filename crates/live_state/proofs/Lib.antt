@@ -1,0 +1,5 @@
+mod Lists
+pub mod Layouts
+mod Kept
+pub mod Live
+mod Copied

@@ -1,0 +1,4 @@
+pub mod Fold
+pub mod Shows
+pub mod Tallies
+pub mod Copies

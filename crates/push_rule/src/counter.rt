@@ -1,0 +1,269 @@
+ghost use Rattle.std.specs.Prelude.{◌≡◌, ◌<◌, ◌≤◌, ◌+◌, ◌-◌, ◌*◌, ◌^◌, ℕ, [], ◌∷◌, length, drop, true, IfOk};
+ghost use Rattle.hash_rows.specs.Shapes.{IsShape, size_of};
+ghost use Rattle.push_history.specs.LagRun.{Terms, Worker, count_step, fresh_worker, updates_by};
+ghost use Rattle.push_history.specs.OwnSteps.{with_taken};
+ghost use Rattle.push_history.specs.Residue.{residue};
+ghost use Rattle.push_history.specs.Updates.{update_at};
+
+use flow_base::NoMemory;
+use hash_rows::{Bits, Full, Kind, Push, Update};
+use push_history::Reply;
+use crate::Private;
+use std::alloc::Global;
+use std::marker::Model;
+
+/// A worker's private sketch, and its messages that wait to be folded.
+#[derive(Drop)]
+pub struct Counter<K: Kind> {
+    worker: u32,
+    lane: u32,
+    full: Full,
+    sketch: Private<K>,
+    queue: Vec<Push>,
+    room: u32,
+    taken: u32,
+}
+
+impl<K: Kind> Model for Counter<K> {
+    ghost use Rattle.std.specs.Prelude.{◌≡◌, ◌≤◌, None, length, vec_capacity};
+    ghost use Rattle.push_rule.specs.Counters.{CounterView};
+
+    ghost Value = { CounterView K.Held };
+
+    ghost view = { λ c. record { worker = c.worker; lane = c.lane; full = c.full; sketch = c.sketch; queue = c.queue.items; room = c.room; taken = c.taken } };
+
+    ghost invariant = { λ c. (c.taken ≤ length c.queue.items) × (length c.queue.items ≤ c.room) × (c.room ≤ vec_capacity c.queue) × (c.sketch.due ≡ None) };
+}
+
+impl<K: Kind> Counter<K> {
+    ghost use Rattle.std.specs.Prelude.{None, ◌&&◌, ◌||◌, nat_le, nat_lt, false, if◌then◌else◌, max, slice_index_or};
+    ghost use Rattle.push_history.specs.Pushes.{distance_at, is_refused};
+    ghost use Rattle.push_rule.specs.Counters.{KeepsSettings, Extends, in_lane, is_wait};
+    ghost use Rattle.push_history.specs.Rounds.{is_waits};
+    ghost use Rattle.push_rule.specs.Keeps.{Keeps};
+
+    /// A worker that has counted nothing, with a sketch of so many cells, for so many updates, and
+    /// a queue with the room.
+    pub fn new(
+        alloc: Global,
+        worker: u32,
+        lane: u32,
+        full: Full,
+        sketch: Private<K>,
+        room: u32,
+    ) -> Result<Counter<K>, NoMemory>
+        requires { sketch.due ≡ None }
+        ensures worker { IfOk result (λ counter. counter.worker ≡ worker) }
+        ensures lane { IfOk result (λ counter. counter.lane ≡ lane) }
+        ensures full { IfOk result (λ counter. counter.full ≡ full) }
+        ensures sketch { IfOk result (λ counter. counter.sketch ≡ sketch) }
+        ensures queue { IfOk result (λ counter. counter.queue ≡ []) }
+        ensures taken { IfOk result (λ counter. counter.taken ≡ 0) }
+        ensures room { IfOk result (λ counter. counter.room ≡ room) }
+    {
+        match Vec::with_capacity(alloc, room as usize) {
+            Ok(queue) => Ok(Counter {
+                worker,
+                lane,
+                full,
+                sketch,
+                queue,
+                room,
+                taken: 0,
+            }),
+            Err(_) => Err(NoMemory),
+        }
+    }
+
+    /// How many messages are in the lane.
+    pub fn held(&self) -> u32
+        ensures { result ≡ in_lane self.now }
+    {
+        let _room = self.room;
+        self.queue.len() as u32 - self.taken
+    }
+
+    /// How many updates were counted.
+    pub fn counted(&self) -> u32
+        ensures { result ≡ self.now.sketch.counted }
+    {
+        self.sketch.counted()
+    }
+
+    /// Whether there are updates left to count, or messages in the lane.
+    pub fn is_busy(&self) -> bool
+        ensures { result ≡ (nat_lt self.now.sketch.counted self.now.sketch.room || nat_lt 0 (in_lane self.now)) }
+    {
+        self.sketch.has_left() || self.held() > 0
+    }
+
+    /// The messages since the queue was cleared, those that were folded in front.
+    pub fn messages(&self) -> &[Push]
+        ensures { result.now ≡ self.now.queue }
+    {
+        &self.queue
+    }
+
+    /// How many of these were folded.
+    pub fn taken(&self) -> u32
+        ensures { result ≡ self.now.taken }
+    {
+        self.taken
+    }
+
+    /// Gives the oldest messages of the lane away, to be folded.
+    pub fn take(&mut self, count: u32)
+        requires { self.old.taken + count ≤ length self.old.queue }
+        ensures keeps { (t : Terms) (w : ℕ) (x : Worker) → Keeps K.stands t w self.old x → Keeps K.stands t w self.new (with_taken x count) }
+        ensures now { self.new ≡ record self.old { taken = self.old.taken + count } }
+    {
+        let _room = self.room;
+        self.taken += count;
+    }
+
+    /// Clears the queue of the messages that were folded.
+    pub fn clear(&mut self)
+        ensures keeps { (t : Terms) (w : ℕ) (x : Worker) → Keeps K.stands t w self.old x → Keeps K.stands t w self.new x }
+        ensures now { self.new ≡ record self.old { queue = drop self.old.taken self.old.queue; taken = 0 } }
+    {
+        let left = self.queue.len() - self.taken as usize;
+        self.queue.rotate_left(self.taken as usize);
+        self.queue.truncate(left);
+        self.taken = 0;
+    }
+
+    /// What was counted of the cell and not told.
+    pub fn residue(&self, cell: u32) -> i64
+        requires { cell < length self.now.sketch.held }
+        ensures value { (t : Terms) (w : ℕ) (x : Worker) → t.rules ≡ K.rules → Keeps K.stands t w self.now x
+            → K.rules.is_value result ≡ true }
+        ensures residue { (t : Terms) (w : ℕ) (x : Worker) → t.rules ≡ K.rules → Keeps K.stands t w self.now x
+            → result ≡ residue t.rules (updates_by t w) x.sent x.counted cell }
+    {
+        self.sketch.residue(cell)
+    }
+
+    /// For each update whether its push was refused.
+    pub fn into_bits(self) -> Bits
+        ensures refused { (t : Terms) (w : ℕ) (x : Worker) → t.rules ≡ K.rules → Keeps K.stands t w self x
+            → (k : ℕ) → slice_index_or result k false ≡ is_refused k x.refused }
+        ensures length { length result ≡ self.sketch.room }
+    {
+        self.sketch.into_bits()
+    }
+
+    /// Takes up an update: counts it, and sends a push that is due, or refuses it at a full lane.
+    /// Where pushes wait, one that meets a full lane changes nothing.
+    pub fn count(&mut self, update: &Update) -> Reply
+        requires sketch { self.old.sketch.counted < self.old.sketch.room }
+        requires cell { update.now.cell < length self.old.sketch.held }
+        requires value { K.rules.is_value update.now.value ≡ true }
+        requires room { length self.old.queue < self.old.room }
+        ensures keeps { (t : Terms) (w : ℕ) (x : Worker) → t.rules ≡ K.rules → Keeps K.stands t w self.old x
+            → x.counted < length (updates_by t w) → update_at (updates_by t w) x.counted ≡ update.now
+            → Keeps K.stands t w self.new (count_step t w x).0 × (result ≡ (count_step t w x).1) }
+        ensures same { KeepsSettings self.old self.new }
+        ensures queue { length self.new.queue ≤ length self.old.queue + 1 }
+        ensures lane { length self.new.queue ≤ max (length self.old.queue) (self.old.taken + self.old.lane) }
+        ensures grows { Extends self.old.queue self.new.queue }
+        ensures counted { self.new.sketch.counted ≡ (if is_waits result then self.old.sketch.counted else self.old.sketch.counted + 1) }
+    {
+        if self.held() < self.lane {
+            return self.count_with_room(update);
+        }
+        self.count_at_full_lane(update)
+    }
+
+    // The same, where the lane has room.
+    fn count_with_room(&mut self, update: &Update) -> Reply
+        requires lane { in_lane self.old < self.old.lane }
+        requires sketch { self.old.sketch.counted < self.old.sketch.room }
+        requires cell { update.now.cell < length self.old.sketch.held }
+        requires value { K.rules.is_value update.now.value ≡ true }
+        requires room { length self.old.queue < self.old.room }
+        ensures keeps { (t : Terms) (w : ℕ) (x : Worker) → t.rules ≡ K.rules → Keeps K.stands t w self.old x
+            → x.counted < length (updates_by t w) → update_at (updates_by t w) x.counted ≡ update.now
+            → Keeps K.stands t w self.new (count_step t w x).0 × (result ≡ (count_step t w x).1) }
+        ensures same { KeepsSettings self.old self.new }
+        ensures queue { length self.new.queue ≤ length self.old.queue + 1 }
+        ensures lane { length self.new.queue ≤ max (length self.old.queue) (self.old.taken + self.old.lane) }
+        ensures grows { Extends self.old.queue self.new.queue }
+        ensures counted { self.new.sketch.counted ≡ (if is_waits result then self.old.sketch.counted else self.old.sketch.counted + 1) }
+    {
+        let number = self.sketch.counted();
+        match self.sketch.count(update.cell, update.value) {
+            None => Reply::Counted,
+            Some(amount) => {
+                self.sketch.sent();
+                self.queue.push_reserved(Push {
+                    worker: self.worker,
+                    packet: update.packet,
+                    update: number,
+                    key: update.key,
+                    cell: update.cell,
+                    amount,
+                });
+                Reply::Pushed { amount }
+            }
+        }
+    }
+
+    // The same, where the lane is full.
+    fn count_at_full_lane(&mut self, update: &Update) -> Reply
+        requires lane { self.old.lane ≤ in_lane self.old }
+        requires sketch { self.old.sketch.counted < self.old.sketch.room }
+        requires cell { update.now.cell < length self.old.sketch.held }
+        requires value { K.rules.is_value update.now.value ≡ true }
+        ensures keeps { (t : Terms) (w : ℕ) (x : Worker) → t.rules ≡ K.rules → Keeps K.stands t w self.old x
+            → x.counted < length (updates_by t w) → update_at (updates_by t w) x.counted ≡ update.now
+            → Keeps K.stands t w self.new (count_step t w x).0 × (result ≡ (count_step t w x).1) }
+        ensures same { KeepsSettings self.old self.new }
+        ensures queue { length self.new.queue ≤ length self.old.queue + 1 }
+        ensures lane { length self.new.queue ≤ max (length self.old.queue) (self.old.taken + self.old.lane) }
+        ensures grows { Extends self.old.queue self.new.queue }
+        ensures counted { self.new.sketch.counted ≡ (if is_waits result then self.old.sketch.counted else self.old.sketch.counted + 1) }
+    {
+        if self.waits_with(update) {
+            return Reply::Waits;
+        }
+        self.count_or_refuse(update)
+    }
+
+    // Whether the update makes a push due that has to wait.
+    fn waits_with(&self, update: &Update) -> bool
+        requires sketch { self.now.sketch.counted < self.now.sketch.room }
+        requires cell { update.now.cell < length self.now.sketch.held }
+        requires value { K.rules.is_value update.now.value ≡ true }
+        ensures { (t : Terms) (w : ℕ) (x : Worker) → t.rules ≡ K.rules → Keeps K.stands t w self.now x
+            → x.counted < length (updates_by t w) → update_at (updates_by t w) x.counted ≡ update.now
+            → result ≡ (is_wait self.now.full && nat_le t.threshold (distance_at t.rules (updates_by t w) x.sent x.counted)) }
+    {
+        match self.full {
+            Full::Leave => false,
+            Full::Wait => self.sketch.due_with(update.cell, update.value),
+        }
+    }
+
+    // Counts the update, and refuses a push that is due.
+    fn count_or_refuse(&mut self, update: &Update) -> Reply
+        requires lane { self.old.lane ≤ in_lane self.old }
+        requires sketch { self.old.sketch.counted < self.old.sketch.room }
+        requires cell { update.now.cell < length self.old.sketch.held }
+        requires value { K.rules.is_value update.now.value ≡ true }
+        ensures keeps { (t : Terms) (w : ℕ) (x : Worker) → t.rules ≡ K.rules → Keeps K.stands t w self.old x
+            → x.counted < length (updates_by t w) → update_at (updates_by t w) x.counted ≡ update.now
+            → (is_wait self.old.full && nat_le t.threshold (distance_at t.rules (updates_by t w) x.sent x.counted)) ≡ false
+            → Keeps K.stands t w self.new (count_step t w x).0 × (result ≡ (count_step t w x).1) }
+        ensures same { KeepsSettings self.old self.new }
+        ensures queue { self.new.queue ≡ self.old.queue }
+        ensures counted { self.new.sketch.counted ≡ (if is_waits result then self.old.sketch.counted else self.old.sketch.counted + 1) }
+    {
+        match self.sketch.count(update.cell, update.value) {
+            None => Reply::Counted,
+            Some(_) => {
+                self.sketch.refused();
+                Reply::Refused
+            }
+        }
+    }
+}
