@@ -80,6 +80,13 @@ impl Line {
         self.text(&text[..len]);
     }
 
+    /// The bytes so far.
+    pub fn as_slice(&self) -> &[u8]
+        ensures { result.now ≡ self.now }
+    {
+        &self.bytes[..self.len]
+    }
+
     /// Ends the line with a line feed, and writes it as one piece.
     pub fn send<T: Sink>(&mut self, out: &mut T) -> Result<(), Failed>
         requires { length self.old + 1 ≤ 1024 }

@@ -173,6 +173,14 @@ impl<K: Kind> Private<K> {
         K::unsent(*self.held.get(cell)).1
     }
 
+    /// How far what was told of the cell is from the whole.
+    pub fn distance(&self, cell: u32) -> u64
+        requires { cell < length self.now.held }
+        ensures { (told whole : ℤ) → StandsAt K.stands self.now.held cell told whole → result ≡ K.rules.distance told whole }
+    {
+        K::unsent(*self.held.get(cell)).0
+    }
+
     /// How many updates were counted.
     pub fn counted(&self) -> u32
         ensures { result ≡ self.now.counted }
