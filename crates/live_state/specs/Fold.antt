@@ -81,6 +81,6 @@ abbrev pub Fit : Rules → Layout → List Push → Type 0
 Fit r l messages = All (λ m. fits r l m ≡ true) messages
 
 -- the state is that after the messages, and each of them fits
-pub record IsFoldOf (r : Rules) (s : StateView) (messages : List Push) : Type 0 where
+pub record IsStateAfter (r : Rules) (s : StateView) (messages : List Push) : Type 0 where
   pub fit : Fit r (layout_of s) messages
   pub sums : s ≡ state_after r (layout_of s) messages

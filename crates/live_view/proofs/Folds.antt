@@ -4,7 +4,7 @@ use Rattle.std.proofs.lemmas.List.Elements.{All-head, All-tail, All-append}
 use Rattle.std.proofs.lemmas.List.Sums.{fold-append}
 use mathlib.Core.List.{IsPrefix}
 use Rattle.hash_rows.specs.Rules.{Rules}
-use Rattle.live_state.specs.Fold.{StateView, fits, added, absorbed, layout_of, fresh_state, most, state_after, Fit, IsFoldOf}
+use Rattle.live_state.specs.Fold.{StateView, fits, added, absorbed, layout_of, fresh_state, most, state_after, Fit, IsStateAfter}
 use Rattle.hash_rows.specs.declared.shape.Push.{Push}
 use Rattle.live_state.specs.declared.layout.Layout.{Layout}
 use Rattle.live_state.proofs.Layouts.{fresh_layout, absorbed_layout, layout_all}
@@ -27,7 +27,7 @@ module _ (r : Rules) where
       let rest = counts (absorbed r s m) log (subst (λ (z : Layout). Fit r z log) (sym (absorbed_layout r s m)) tail) less in
       omega (arith, one, rest)
 
-  pub count_is : (s : StateView) (log : List Push) → IsFoldOf r s log → s.folded ≡ min (length log) most
+  pub count_is : (s : StateView) (log : List Push) → IsStateAfter r s log → s.folded ≡ min (length log) most
   count_is s log h =
       let z = fresh_state (layout_of s) in
       let fit : Fit r (layout_of z) log = subst (λ (y : Layout). Fit r y log) (sym (fresh_layout (layout_of s))) h.fit in
@@ -36,10 +36,10 @@ module _ (r : Rules) where
       omega (arith, n, e)
 
   -- the writer's list, which is short enough to be counted, is the whole log
-  pub whole : (s : StateView) (list log : List Push) → IsFoldOf r s list → IsFoldOf r s log → IsPrefix list log → length list < most → list ≡ log
+  pub whole : (s : StateView) (list log : List Push) → IsStateAfter r s list → IsStateAfter r s log → IsPrefix list log → length list < most → list ≡ log
   whole s list log a b pre lt = prefix_whole list log pre (omega (arith, count_is s list a, count_is s log b))
 
-  pub goes_on : (s t : StateView) (list more : List Push) → IsFoldOf r s list → Fit r (layout_of s) more → t ≡ fold (absorbed r) s more → IsFoldOf r t (list ++ more)
+  pub goes_on : (s t : StateView) (list more : List Push) → IsStateAfter r s list → Fit r (layout_of s) more → t ≡ fold (absorbed r) s more → IsStateAfter r t (list ++ more)
   goes_on s t list more h fit e =
       let same : layout_of s ≡ layout_of t = sym (ap layout_of e ∙ layout_all r s more) in
       let both : Fit r (layout_of s) (list ++ more) = All-append (λ (x : Push). fits r (layout_of s) x ≡ true) list more h.fit fit in
@@ -49,7 +49,7 @@ module _ (r : Rules) where
       }
 
   -- the state after messages that fit is their fold
-  pub after_is_fold : (l : Layout) (log : List Push) → Fit r l log → IsFoldOf r (state_after r l log) log
+  pub after_is_fold : (l : Layout) (log : List Push) → Fit r l log → IsStateAfter r (state_after r l log) log
   after_is_fold l log fit =
       let same : layout_of (state_after r l log) ≡ l = layout_all r (fresh_state l) log ∙ fresh_layout l in
       record { fit = subst (λ (z : Layout). Fit r z log) (sym same) fit; sums = ap (λ (z : Layout). state_after r z log) (sym same) }

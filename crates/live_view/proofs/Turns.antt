@@ -10,7 +10,7 @@ use Rattle.crossbeam_utils.specs.Register.{Admits, Turns, TurnsAt, Forks, Merges
 use Rattle.atomic_table.proofs.Lists.{at_set, at_snoc}
 use Rattle.hash_rows.specs.Rules.{Rules}
 use Rattle.live_view.specs.Views.{History, PublishedView, with_all}
-use Rattle.live_state.specs.Fold.{StateView, absorbed, layout_of, fresh_state, Fit, IsFoldOf}
+use Rattle.live_state.specs.Fold.{StateView, absorbed, layout_of, fresh_state, Fit, IsStateAfter}
 use Rattle.live_view.specs.Rule.{notes, pair_of, paired, Knows, IsPublished, Entered, turned, messages, IsChain}
 use Rattle.hash_rows.specs.declared.shape.Push.{Push}
 use Rattle.live_state.specs.declared.layout.Layout.{Layout}
@@ -53,7 +53,7 @@ only zero v at = some-injective (notes [] None) v at
 only (suc seat) v at = absurd (some-ne-none v (sym at))
 
 module _ (r : Rules) where
-  pub empty : (z : Layout) → IsFoldOf r (fresh_state z) []
+  pub empty : (z : Layout) → IsStateAfter r (fresh_state z) []
   empty z = record { fit = All-nil _; sums = ap fresh_state (sym (fresh_layout z)) }
 
   -- what all entries of a chain make of a page
@@ -71,11 +71,11 @@ module _ (r : Rules) where
   pub same_layout : (p q : PublishedView) (es : List Entry) → IsChain p.history es → q ≡ fold (turned r) p es → layout_of q.figures ≡ layout_of p.figures
   same_layout p q es h e = ap (λ (x : PublishedView). layout_of x.figures) (e ∙ turned_all p es h) ∙ layout_all r p.figures (messages es)
 
-  pub sums_go_on : (p q : PublishedView) (es : List Entry) → IsFoldOf r p.figures p.history.log → Fit r (layout_of p.figures) (messages es) → IsChain p.history es → q ≡ fold (turned r) p es → IsFoldOf r q.figures q.history.log
+  pub sums_go_on : (p q : PublishedView) (es : List Entry) → IsStateAfter r p.figures p.history.log → Fit r (layout_of p.figures) (messages es) → IsChain p.history es → q ≡ fold (turned r) p es → IsStateAfter r q.figures q.history.log
   sums_go_on p q es sums fit h e =
       let all = e ∙ turned_all p es h in
       let next = goes_on r p.figures q.figures p.history.log (messages es) sums fit (ap (λ (x : PublishedView). x.figures) all) in
-      subst (λ (l : List Push). IsFoldOf r q.figures l) (sym (ap (λ (x : PublishedView). x.history.log) all)) next
+      subst (λ (l : List Push). IsStateAfter r q.figures l) (sym (ap (λ (x : PublishedView). x.history.log) all)) next
 
   pub admits : Admits (IsPublished r) (notes [] None)
   admits p views h = record { sums = h.sums; known = know_snoc p views (notes [] None) h.known (nothing p) }
@@ -120,6 +120,6 @@ module _ (r : Rules) where
 
   pub opens : (p : PublishedView) (z : Layout) → p.figures ≡ fresh_state z → p.history.log ≡ [] → IsPublished r p (notes [] None ∷ [])
   opens p z is none = record {
-    sums = subst (λ (t : StateView × List Push). IsFoldOf r t.0 t.1) (λ i. (sym is i, sym none i)) (empty z);
+    sums = subst (λ (t : StateView × List Push). IsStateAfter r t.0 t.1) (λ i. (sym is i, sym none i)) (empty z);
     known = λ seat v at. subst (Knows p) (only seat v at) (nothing p);
   }

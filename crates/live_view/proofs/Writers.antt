@@ -4,7 +4,7 @@ use Rattle.std.proofs.lemmas.List.{append-nil, map-append}
 use Rattle.std.proofs.lemmas.List.Elements.{All-nil, All-cons, All-append}
 use Rattle.hash_rows.specs.Rules.{Rules}
 use Rattle.live_view.specs.Views.{History, PublishedView, with_all, longer}
-use Rattle.live_state.specs.Fold.{StateView, most, fits, Fit, IsFoldOf, layout_of}
+use Rattle.live_state.specs.Fold.{StateView, most, fits, Fit, IsStateAfter, layout_of}
 use Rattle.live_view.specs.Rule.{notes, pair_of, turned, messages, IsChain, late}
 use Rattle.live_view.specs.Writers.{IsWriter}
 use Rattle.hash_rows.specs.declared.shape.Push.{Push}
@@ -89,5 +89,5 @@ module _ (r : Rules) where
   pub counted : (p : PublishedView) (v : Notes) (es : List Entry) (history_writer : HistoryWriter) → IsWriter r p v es history_writer → p.figures.folded ≡ length p.history.log
   counted p v es history_writer h = omega (arith, count_is r p.figures p.history.log h.sums, short p v es history_writer h)
 
-  pub all_known : (s : StateView) (list known : List Push) → IsFoldOf r s known → IsPrefix list known → s.folded ≡ length list → length list < most → known ≡ list
+  pub all_known : (s : StateView) (list known : List Push) → IsStateAfter r s known → IsPrefix list known → s.folded ≡ length list → length list < most → known ≡ list
   all_known s list known h pre n lt = sym (prefix_whole list known pre (omega (arith, count_is r s known h, n)))

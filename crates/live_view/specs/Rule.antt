@@ -6,7 +6,7 @@ use lib.ListN.{get_elem?}
 use Rattle.logbook.specs.Pages.{Book}
 use Rattle.hash_rows.specs.Rules.{Rules}
 use Rattle.live_view.specs.Views.{History, PublishedView, longer}
-use Rattle.live_state.specs.Fold.{IsFoldOf, absorbed, layout_of}
+use Rattle.live_state.specs.Fold.{IsStateAfter, absorbed, layout_of}
 use Rattle.hash_rows.specs.declared.shape.Push.{Push}
 use Rattle.live_state.specs.declared.layout.Layout.{Layout}
 use Rattle.live_view.specs.declared.history.Entry.{Entry}
@@ -33,12 +33,12 @@ pub record Knows (p : PublishedView) (v : Notes) : Type 0 where
 
 -- the state is the fold of its history, which each seat knows a beginning of
 pub record IsPublished (r : Rules) (p : PublishedView) (views : List Notes) : Type 0 where
-  pub sums : IsFoldOf r p.figures p.history.log
+  pub sums : IsStateAfter r p.figures p.history.log
   pub known : (seat : ℕ) (v : Notes) → get_elem? views seat ≡ some v → Knows p v
 
 -- the whole history of the page is known afterwards
 pub record Entered (r : Rules) (v : Notes) (p : PublishedView) (w : Notes) : Type 0 where
-  pub sums : IsFoldOf r p.figures p.history.log
+  pub sums : IsStateAfter r p.figures p.history.log
   pub before : Knows p v
   pub seat : w ≡ notes p.history.log v.pair
 

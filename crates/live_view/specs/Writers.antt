@@ -1,7 +1,7 @@
 -- What the writer keeps.
 use Rattle.std.specs.Prelude.{◌≡◌, ◌<◌, List, length, Some}
 use Rattle.hash_rows.specs.Rules.{Rules}
-use Rattle.live_state.specs.Fold.{IsFoldOf, Fit, layout_of, most}
+use Rattle.live_state.specs.Fold.{IsStateAfter, Fit, layout_of, most}
 use Rattle.live_view.specs.Views.{PublishedView, with_all}
 use Rattle.live_view.specs.Rule.{notes, pair_of, messages, IsChain, late}
 use Rattle.live_view.specs.declared.history.Entry.{Entry}
@@ -10,7 +10,7 @@ use Rattle.live_view.specs.declared.rule.Notes.{Notes}
 
 -- of the page that is shown, what its seat knows, the entries that are pending and the history_writer
 pub record IsWriter (r : Rules) (shown : PublishedView) (seat : Notes) (entries : List Entry) (history_writer : HistoryWriter) : Type 0 where
-  pub sums : IsFoldOf r shown.figures shown.history.log
+  pub sums : IsStateAfter r shown.figures shown.history.log
   pub seat_is : seat ≡ notes shown.history.log (Some (pair_of shown))
   pub fit : Fit r (layout_of shown.figures) (messages entries)
   pub chain : IsChain shown.history entries

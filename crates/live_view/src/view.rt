@@ -2,7 +2,7 @@
 ghost use Rattle.std.specs.Prelude.{◌≡◌, ◌≤◌, ◌⊎◌, [], length, Some, MatchBool};
 ghost use Rattle.left_right.specs.Sides.{view};
 ghost use Rattle.live_state.specs.Copies.{HasRoomFor, IsCopyOf, KeepsRest};
-ghost use Rattle.live_state.specs.Fold.{Fit, IsFoldOf, state_after};
+ghost use Rattle.live_state.specs.Fold.{Fit, IsStateAfter, state_after};
 ghost use Rattle.live_view.specs.Rule.{notes, paired, pair_of};
 ghost use mathlib.Core.List.{IsPrefix};
 
@@ -58,7 +58,7 @@ fn taken<K: Kind>(
     into: &mut Answer,
 ) -> bool
     requires pair { paired told.now.book layout ≡ pair_of page.now }
-    requires sums { IsFoldOf K.rules page.now.figures page.now.history.log }
+    requires sums { IsStateAfter K.rules page.now.figures page.now.history.log }
     requires room { HasRoomFor layout.workers keys.now into.old }
     ensures room { HasRoomFor layout.workers keys.now into.new }
     ensures rest { KeepsRest into.old into.new }

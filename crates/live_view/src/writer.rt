@@ -2,7 +2,7 @@
 ghost use Rattle.std.specs.Prelude.{◌≡◌, ◌+◌, ◌<◌, [], ◌∷◌, ◌++◌, length, drop, fold, true, Some, None, IfOk, IfSome, MatchResult, MatchBool};
 ghost use Rattle.std.specs.Arc.{arc_value};
 ghost use Rattle.left_right.specs.Sides.{view};
-ghost use Rattle.live_state.specs.Fold.{fits, absorbed, fresh_state, layout_of, most, state_after, Fit, IsFoldOf};
+ghost use Rattle.live_state.specs.Fold.{fits, absorbed, fresh_state, layout_of, most, state_after, Fit, IsStateAfter};
 ghost use Rattle.live_view.specs.Rule.{notes, pair_of, turned, messages, IsChain};
 
 use crate::history::{HistoryWriter, Entry};
@@ -108,7 +108,7 @@ impl<K: Kind> ViewWriter<K> {
     ) -> ViewWriter<K>
         requires layout { layout ≡ layout_of writer.desk.shown.value.figures }
         requires none { drop writer.behind writer.log.items ≡ [] }
-        requires zero { IsFoldOf K.rules writer.desk.shown.value.figures [] }
+        requires zero { IsStateAfter K.rules writer.desk.shown.value.figures [] }
         requires history_writer { (history_writer.stamp ≡ writer.desk.shown.value.history) × (history_writer.stamp.log ≡ []) × (history_writer.count ≡ 0) × (history_writer.stuck ≡ None) }
         ensures book { result.book ≡ history_writer.stamp.book }
         ensures layout { result.layout ≡ layout }

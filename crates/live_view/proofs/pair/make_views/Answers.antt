@@ -3,7 +3,7 @@ use Rattle.std.specs.Prelude.{All}
 use Rattle.std.proofs.lemmas.List.Elements.{All-append, All-cons, All-nil}
 use Rattle.logbook.specs.Pages.{Book}
 use Rattle.live_state.specs.declared.layout.Layout.{Layout}
-use Rattle.live_state.specs.Fold.{StateView, IsFoldOf}
+use Rattle.live_state.specs.Fold.{StateView, IsStateAfter}
 use Rattle.live_view.specs.Views.{WriterView, ReaderView, PublishedView, layout_for}
 use Rattle.live_view.proofs.Lists.{one_longer}
 use Rattle.live_view.proofs.Turns.{empty, opens}
@@ -15,7 +15,7 @@ new-requires-4-clause-rule g c = opens g.K.Kind.rules _ (layout_for c.args.shape
 pub over-writer-requires-clause-zero : goal.over-writer-requires-clause-zero
 over-writer-requires-clause-zero g c κs within =
     let figures = ap (λ (p : PublishedView). p.figures) c.in-Ok.ensures.0 ∙ c.in_ok-first.ensures.figures in
-    subst (λ (s : StateView). IsFoldOf g.K.Kind.rules s []) (sym figures) (empty g.K.Kind.rules _)
+    subst (λ (s : StateView). IsStateAfter g.K.Kind.rules s []) (sym figures) (empty g.K.Kind.rules _)
 
 pub loop-preserved : goal.loop-preserved
 loop-preserved g c =
