@@ -13,15 +13,3 @@ pub fn lower_median(values: &mut [i64]) -> i64
     values.sort_unstable();
     values[(values.len() - 1) / 2]
 }
-
-#[cfg(test)]
-mod tests {
-    use super::*;
-
-    #[test]
-    fn takes_the_lower_of_two_medians(rt: HostRuntime) {
-        assert_eq!(rt; lower_median(&mut [9, 2, -1, 5]), 2);
-        assert_eq!(rt; lower_median(&mut [4]), 4);
-        assert_eq!(rt; lower_median(&mut [3, i64::MIN, i64::MAX]), 3);
-    }
-}

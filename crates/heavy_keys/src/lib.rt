@@ -11,8 +11,6 @@ mod heavy;
 mod parts;
 mod ranks;
 mod recent;
-#[cfg(test)]
-mod tests;
 
 pub use heaviest_flows::{HeaviestFlows, heaviest};
 pub use heavy::Heavy;

@@ -109,29 +109,3 @@ pub fn estimate_distinct(registers: u32, cells: &[i64]) -> i64
         raw as i64
     }
 }
-
-#[cfg(test)]
-mod tests {
-    use super::*;
-
-    #[test]
-    fn ranks_by_trailing_zeros(rt: HostRuntime) {
-        for (hash, columns, wanted) in [
-            (0, 128, 32),
-            (127, 128, 32),
-            (128, 128, 1),
-            (513, 128, 3),
-            (1 << 63, 128, 32),
-            (6, 1, 2),
-        ] {
-            assert_eq!(rt; rank(hash, columns), wanted);
-        }
-    }
-
-    // By the formulas in decimal numbers: 732.4, and 128 times the sum of 1 / i for i from 65 to 128.
-    #[test]
-    fn estimates_by_registers(rt: HostRuntime) {
-        assert_eq!(rt; estimate_raw(128, 128 << 29), 732);
-        assert_eq!(rt; count_linear(128, 64), 88);
-    }
-}

@@ -16,5 +16,3 @@ pub use laws::maximal_runs;
 pub use line::Line;
 pub use report::{Report, write_report};
 
-#[cfg(test)]
-mod tests;

@@ -4,8 +4,6 @@
 mod build;
 mod findings;
 mod one_table;
-#[cfg(test)]
-mod tests;
 mod totals;
 
 pub use build::report_of;

@@ -6,8 +6,6 @@ mod command;
 mod options;
 mod parser;
 mod read;
-#[cfg(test)]
-mod tests;
 mod values;
 mod watch;
 

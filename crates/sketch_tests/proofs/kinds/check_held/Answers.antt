@@ -1,6 +1,6 @@
 use Rattle.std.proofs.Common.{rules, pos, ◌≡◌, ◌∙◌, sym, Some, ap, w8, to_z, of_z, ℤ, true, FitsSigned}
 use Rattle.std.proofs.lemmas.Int.{to_z-of_z}
-use Rattle.kind_rows.proofs.tests.check_held.Goals as goal
+use Rattle.sketch_tests.proofs.kinds.check_held.Goals as goal
 
 pub from_small-requires : goal.from_small-requires
 from_small-requires g c =

@@ -1,6 +1,6 @@
 ghost use Rattle.std.specs.Prelude.{◌≡◌};
 
-use crate::*;
+use reports::*;
 use count_min::CountMin;
 use count_sketch::CountSketch;
 use flow_base::NoMemory;

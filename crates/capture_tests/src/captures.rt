@@ -1,4 +1,4 @@
-use crate::{
+use pcap_read::{
     Bad, Reader, capture_fine, one_outcome, one_reading, one_refusal, refusal_stays, standing,
 };
 use flow_base::NoMemory;

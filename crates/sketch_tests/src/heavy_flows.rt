@@ -1,4 +1,4 @@
-use crate::*;
+use heavy_keys::*;
 use count_min::CountMin;
 use flow_base::NoMemory;
 use hash_rows::{Flow, Packet, Shape, Table, cell_of};

@@ -1,4 +1,4 @@
-use crate::{Command, WordStop, read_words};
+use words::{Command, WordStop, read_words};
 use hash_rows::{Amount, Full, Mode, Options, Shape, Share, Sketch};
 use packet_key::parse_key;
 use std::alloc::Global;

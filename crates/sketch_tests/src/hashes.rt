@@ -1,4 +1,4 @@
-use crate::*;
+use hash_rows::*;
 use packet_key::FlowKey;
 use std::test::Fail;
 

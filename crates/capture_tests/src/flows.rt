@@ -1,4 +1,4 @@
-use crate::{
+use flow_base::{
     CountSink, Failed, MemSink, MemSource, Sink, Source, Status, StdSink, StdSource, SureSource,
     write_all,
 };

@@ -2,7 +2,7 @@
 // later fragment, `F5` ICMP, `F6` UDP over IPv6, `TAGS` is `F1` behind three tags.
 ghost use Rattle.std.specs.Prelude.{◌<◌};
 
-use super::*;
+use packet_key::*;
 use std::cmp::Ordering;
 
 const F1: [u8; 54] = [

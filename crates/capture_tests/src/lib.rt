@@ -1,0 +1,9 @@
+//! Worked sources and sinks, frames and keys, captures.
+#![tactic(auto)]
+
+#[cfg(test)]
+mod captures;
+#[cfg(test)]
+mod flows;
+#[cfg(test)]
+mod keys;

@@ -1,0 +1,9 @@
+//! Worked words, texts and reports.
+#![tactic(auto)]
+
+#[cfg(test)]
+mod of_reports;
+#[cfg(test)]
+mod of_texts;
+#[cfg(test)]
+mod of_words;
