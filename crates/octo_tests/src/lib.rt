@@ -1,14 +1,18 @@
-//! Worked runs of octo, from words and bytes to what stands on its output.
+//! Worked runs of octo, from words and bytes to what stands on its outputs.
 #![tactic(auto)]
 
 #[cfg(test)]
 mod bytes;
 #[cfg(test)]
+mod captures;
+#[cfg(test)]
 mod faults;
 #[cfg(test)]
 mod journals;
 #[cfg(test)]
-mod lists;
+mod refusals;
+#[cfg(test)]
+mod reports;
 #[cfg(test)]
 mod runs;
 #[cfg(test)]

@@ -1,0 +1,140 @@
+// Sources and outputs that fail.
+
+use crate::runs::{SMOOTH, Ways, run};
+use flow_base::Status;
+use std::alloc::Global;
+use std::test::Fail;
+use std::thread::Threads;
+
+/// Words whose report of one packet has 15 lines.
+const WORDS: &str = "run --workers 1 --threshold 1 --least 1 --watch 10.0.0.1:1234>10.0.0.2:443/6";
+
+/// Words whose report and journal of six packets have 24 lines.
+const WITH_JOURNAL: &str =
+    "run --rows 1 --columns 1 --workers 1 --threshold 1 --lane 1 --round 4 --readers 1 --asks 3 --least 5 --watch 10.0.0.1:1234>10.0.0.2:443/6 --journal";
+
+// How a run ends whose source gives pieces and fails at a call.
+fn end_of_reads<R: Threads + Sync>(
+    rt: &R,
+    alloc: Global,
+    bytes: &str,
+    piece: u32,
+    call: u32,
+) -> Result<(Status, usize), Fail> {
+    let ways = Ways {
+        piece,
+        failing_reads: &[call],
+        ..SMOOTH
+    };
+    let end = run(rt, alloc, WORDS, bytes, ways)?;
+    Ok((end.status, end.out.held().len()))
+}
+
+#[test]
+fn a_failing_read_ends_the_run(rt: HostRuntime) -> Result<(), Fail> {
+    let alloc = rt.alloc();
+    for call in 0..15 {
+        assert_eq!(rt;
+            end_of_reads(&rt, alloc, "LH tcp", 7, call)?,
+            (Status::ReadFault, 0)
+        );
+    }
+    assert_eq!(rt; end_of_reads(&rt, alloc, "LH tcp", 7, 15)?.0, Status::Done);
+    assert_eq!(rt;
+        end_of_reads(&rt, alloc, "1f8b0800", 1, 3)?.0,
+        Status::ReadFault
+    );
+    assert_eq!(rt;
+        end_of_reads(&rt, alloc, "1f8b0800", 1, 4)?.0,
+        Status::BadCapture
+    );
+    Ok(())
+}
+
+// Whether a write that fails leaves just the lines before it.
+fn leaves_lines<R: Threads + Sync>(
+    rt: &R,
+    alloc: Global,
+    words: &str,
+    bytes: &str,
+    lines: u32,
+) -> Result<bool, Fail> {
+    let whole = run(rt, alloc, words, bytes, SMOOTH)?;
+    let mut good = whole.status == Status::Done;
+    for call in 0..lines {
+        let ways = Ways {
+            failing_writes: &[call],
+            ..SMOOTH
+        };
+        let cut = run(rt, alloc, words, bytes, ways)?;
+        let held = cut.out.held();
+        let whole_lines = held.iter().filter(|byte| **byte == b'\n').count();
+        good = good
+            && cut.status == Status::WriteFault
+            && whole.out.held().starts_with(held)
+            && whole_lines == call as usize
+            && cut.err.held() == b"octo: write fault\n".as_slice();
+    }
+    let later = Ways {
+        failing_writes: &[lines],
+        ..SMOOTH
+    };
+    Ok(good && run(rt, alloc, words, bytes, later)?.status == Status::Done)
+}
+
+#[test]
+fn a_failing_write_leaves_whole_lines(rt: HostRuntime) -> Result<(), Fail> {
+    let alloc = rt.alloc();
+    assert!(rt; leaves_lines(&rt, alloc, WORDS, "LH tcp", 15)?);
+    assert!(rt; leaves_lines(&rt, alloc, WITH_JOURNAL, "LH 6*tcp", 24)?);
+    Ok(())
+}
+
+#[test]
+fn a_small_output_holds_a_front_of_the_report(rt: HostRuntime) -> Result<(), Fail> {
+    let alloc = rt.alloc();
+    let whole = run(&rt, alloc, WORDS, "LH tcp", SMOOTH)?;
+    let bytewise = Ways {
+        at_a_time: 1,
+        ..SMOOTH
+    };
+    let small = Ways { room: 30, ..SMOOTH };
+    let failing = Ways {
+        failing_writes: &[25],
+        ..bytewise
+    };
+    for (ways, held) in [
+        (small, 30),
+        (failing, 25),
+        (bytewise, whole.out.held().len()),
+    ] {
+        let end = run(&rt, alloc, WORDS, "LH tcp", ways)?;
+        assert_eq!(rt; end.out.held().len(), held);
+        assert!(rt; whole.out.held().starts_with(end.out.held()));
+        assert!(rt; (end.status == Status::Done) == (held > 30));
+    }
+    Ok(())
+}
+
+#[test]
+fn a_fault_of_the_error_output_changes_nothing_else(rt: HostRuntime) -> Result<(), Fail> {
+    let untold = Ways {
+        failing_writes: &[1],
+        failing_lines: &[0],
+        ..SMOOTH
+    };
+    let cut = run(&rt, rt.alloc(), WORDS, "LH tcp", untold)?;
+    assert_eq!(rt;
+        (cut.status, cut.out.held().len()),
+        (Status::WriteFault, 20)
+    );
+    assert!(rt; cut.err.held().is_empty());
+    let unread = Ways {
+        failing_reads: &[0],
+        failing_lines: &[0],
+        ..SMOOTH
+    };
+    let end = run(&rt, rt.alloc(), WORDS, "LH tcp", unread)?;
+    assert_eq!(rt; (end.status, end.out.held().len()), (Status::ReadFault, 0));
+    Ok(())
+}
