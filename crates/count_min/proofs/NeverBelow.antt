@@ -12,13 +12,13 @@ use Rattle.packet_key.specs.declared.key.FlowKey.{FlowKey}
 use Rattle.hash_rows.specs.declared.shape.Shape.{Shape}
 use Rattle.hash_rows.specs.declared.shape.Packet.{Packet}
 use Rattle.hash_rows.specs.Amounts.{key_amount, total_amount}
-use Rattle.hash_rows.specs.Keys.{same_key}
+use Rattle.packet_key.specs.Keys.{same_key}
 use Rattle.hash_rows.specs.Rules.{sums}
 use Rattle.hash_rows.specs.Sequential.{packet_values, cell_values, sequential, sequential_table}
 use Rattle.hash_rows.specs.Shapes.{IsShape, cell_of, size_of}
 use Rattle.hash_rows.specs.Sketches.{is_sum, least_of, sum_join, count_min_value, count_min_estimate, key_cells, rows_of}
 use Rattle.hash_rows.specs.Tables.{value_at}
-use Rattle.hash_rows.proofs.EqualKeys.{same_key-eq}
+use Rattle.packet_key.proofs.EqualKeys.{same_key-eq}
 use Rattle.hash_rows.proofs.Places.{place_within, row_of_place}
 use Rattle.hash_rows.proofs.SumLaws.{sum_join_is, fits_sum}
 

@@ -1,5 +1,4 @@
 pub mod Columns
-pub mod EqualKeys
 pub mod HeldRanks
 pub mod HeldSums
 pub mod KeyHashes

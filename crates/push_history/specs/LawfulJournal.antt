@@ -9,7 +9,7 @@ use Rattle.hash_rows.specs.declared.options.Sketch.TheVariants.{CountMin, LogLog
 use Rattle.hash_rows.specs.declared.shape.Packet.{Packet}
 use Rattle.hash_rows.specs.declared.shape.Flow.{Flow}
 use Rattle.hash_rows.specs.declared.shape.Push.{Push}
-use Rattle.hash_rows.specs.Keys.{same_key}
+use Rattle.packet_key.specs.Keys.{same_key}
 use Rattle.push_history.specs.Pushes.{LawfulPushes}
 use Rattle.push_history.specs.Front.{IsFront}
 use Rattle.push_history.specs.Shown.{shown_cells, told_cells}

@@ -72,7 +72,7 @@ map_grid {X} f g m a (suc n) xs len each =
     each (suc q) k x (omega (arith, low)) high (ap (slice_get xs) at ∙ sym (slice_get_drop m (q * m + k) xs) ∙ is) ∙ ap (λ (b : ℕ). g b k) there))
 
 -- the row and the column of a place
-grid_at : (n m i : ℕ) → i < n * m → (q : ℕ) × (k : ℕ) × (q < n) × (k < m) × (i ≡ q * m + k)
+pub grid_at : (n m i : ℕ) → i < n * m → (q : ℕ) × (k : ℕ) × (q < n) × (k < m) × (i ≡ q * m + k)
 grid_at zero m i lt = absurd (omega (arith, lt))
 grid_at (suc n) m i lt = elim (cases_lt i m) [
   | inl first ↦ (let at : i ≡ 0 * m + i = omega arith in (0, i, omega arith, first, at))

@@ -58,14 +58,14 @@ min_values : (packets : List Packet) (shape : Shape) → total_amount packets < 
 min_values packets shape total i row = let few : (packet_at packets i).amount < 2 ^ 63 = omega (arith, amount_most packets i, total) in grind arith
 
 module _ (packets : List Packet) (o : Options) (lawful : IsLawful o) (is : o.sketch ≡ CountMin) (total : total_amount packets < 2 ^ 63) where
-  rules_are : rules_in o ≡ count_min
+  pub rules_are : rules_in o ≡ count_min
   rules_are = ap rules_of is
 
   rules_is : (terms_of packets o).rules ≡ count_min
   unfolding terms_of
   rules_is = rules_are
 
-  values : AddValues (rules_in o) o.shape packets
+  pub values : AddValues (rules_in o) o.shape packets
   values = subst (λ (r : Rules). AddValues r o.shape packets) (sym rules_are) (min_values packets o.shape total)
 
   own_updates : (w : ℕ) → w < o.workers → updates_by (terms_of packets o) w ≡ updates_of count_min o.shape packets (share_of_worker o.share o.workers packets w)
@@ -73,7 +73,7 @@ module _ (packets : List Packet) (o : Options) (lawful : IsLawful o) (is : o.ske
   own_updates w lt = updates_there packets o w lt ∙ ap (λ (r : Rules). updates_of r o.shape packets (share_of_worker o.share o.workers packets w)) rules_are
 
   -- what the packets add to a cell is no more than they amount to
-  plain : ArePlain (terms_of packets o).updates
+  pub plain : ArePlain (terms_of packets o).updates
   plain =
       let len = terms_len packets o in
       let updates = (terms_of packets o).updates in
@@ -123,7 +123,7 @@ module _ (packets : List Packet) (o : Options) (lawful : IsLawful o) (is : o.ske
         subst (NearBy t o s.workers (front_of o.workers ms) key) (sym (shown_is key)) (near_at t s (rounds_lawful t o n) rules_is plain (front_of o.workers ms) is_front o.shape key)
 
 -- the number at a place of a list that f makes
-made_at : {X : Type 0} (f : X → ℤ) (xs : List X) (made : List ℤ) (i : ℕ) (x : X) (z : ℤ) → made ≡ map f xs → slice_get xs i ≡ Some x → slice_get made i ≡ Some z → f x ≡ z
+pub made_at : {X : Type 0} (f : X → ℤ) (xs : List X) (made : List ℤ) (i : ℕ) (x : X) (z : ℤ) → made ≡ map f xs → slice_get xs i ≡ Some x → slice_get made i ≡ Some z → f x ≡ z
 made_at f xs made i x z all at is =
     sym (ap f (get_or_from_slice_get xs i x x at)) ∙ sym (get_or-map f xs i x z (slice_get_within xs i x at)) ∙ ap (λ l. get_or l i z) (sym all) ∙ get_or_from_slice_get made i z z is
 

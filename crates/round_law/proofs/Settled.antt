@@ -43,19 +43,19 @@ module _ (r : Rules) (laws : AreLaws r) where
       ∙ sym (laws.join_assoc a c (r.join b d) a_is c_is (laws.join_value b d b_is d_is))
 
   -- values for each of some numbers
-  abbrev AreEach : (ℕ → ℤ) → ℕ → ℕ → Type 0
+  abbrev pub AreEach : (ℕ → ℤ) → ℕ → ℕ → Type 0
   AreEach f first n = (w : ℕ) → first ≤ w → w < first + n → r.is_value (f w) ≡ true
 
   each_later : (f : ℕ → ℤ) (first n : ℕ) → AreEach f first (suc n) → AreEach f (first + 1) n
   each_later f first n are w low high = are w (omega (arith, low)) (omega (arith, high))
 
-  range_values : (f : ℕ → ℤ) (first n : ℕ) → AreEach f first n → AreValues r (map f (range_with_len first n))
+  pub range_values : (f : ℕ → ℤ) (first n : ℕ) → AreEach f first n → AreValues r (map f (range_with_len first n))
   range_values f first zero are = All-nil (λ y. r.is_value y ≡ true)
   range_values f first (suc n) are =
       All-cons (λ y. r.is_value y ≡ true) (f first) (map f (range_with_len (first + 1) n)) (are first (omega arith) (omega arith)) (range_values f (first + 1) n (each_later f first n are))
 
   -- the join of joins of two is the join of the two joins
-  joined_both : (f g : ℕ → ℤ) (first n : ℕ) → AreEach f first n → AreEach g first n
+  pub joined_both : (f g : ℕ → ℤ) (first n : ℕ) → AreEach f first n → AreEach g first n
       → joined_of r (map (λ w. r.join (f w) (g w)) (range_with_len first n)) ≡ r.join (joined_of r (map f (range_with_len first n))) (joined_of r (map g (range_with_len first n)))
   joined_both f g first zero fs gs = sym (laws.join_zero (pos 0) laws.zero_value)
   joined_both f g first (suc n) fs gs =
@@ -71,7 +71,7 @@ module _ (r : Rules) (laws : AreLaws r) where
       ∙ four (f first) (g first) (joined_of r (map f rest)) (joined_of r (map g rest)) f_is g_is (joined_value r laws (map f rest) fs_are) (joined_value r laws (map g rest) gs_are)
       ∙ ap₂ r.join (sym (joined_cons r laws (f first) (map f rest) f_is fs_are)) (sym (joined_cons r laws (g first) (map g rest) g_is gs_are))
 
-  abbrev TellValues : List Push → Type 0
+  abbrev pub TellValues : List Push → Type 0
   TellValues ms = All (λ m. r.is_value m.amount ≡ true) ms
 
   amounts_values : (cell : ℕ) (ms : List Push) → TellValues ms → AreValues r (amounts_for cell ms)
@@ -83,7 +83,7 @@ module _ (r : Rules) (laws : AreLaws r) where
   flat_values f all (w ∷ ws) = All-append (λ m. r.is_value m.amount ≡ true) (f w) (flat_map f ws) (all w) (flat_values f all ws)
 
   -- what many lists of messages tell
-  told_flat : (cell : ℕ) (f : ℕ → List Push) → ((w : ℕ) → TellValues (f w)) → (ws : List ℕ) → told_of r cell (flat_map f ws) ≡ joined_of r (map (λ w. told_of r cell (f w)) ws)
+  pub told_flat : (cell : ℕ) (f : ℕ → List Push) → ((w : ℕ) → TellValues (f w)) → (ws : List ℕ) → told_of r cell (flat_map f ws) ≡ joined_of r (map (λ w. told_of r cell (f w)) ws)
   unfolding told_of
   told_flat cell f all [] = refl
   told_flat cell f all (w ∷ ws) =

@@ -24,7 +24,7 @@ use Rattle.round_law.proofs.Idle.{end_state}
 use Rattle.round_law.proofs.Lists.{all_grid, map_zip_from}
 use Rattle.round_law.proofs.OwnRounds.{round_len}
 
-front_len : (workers : ℕ) (messages : List Push) → length (front_of workers messages) ≡ workers
+pub front_len : (workers : ℕ) (messages : List Push) → length (front_of workers messages) ≡ workers
 unfolding front_of
 front_len workers messages = length-map-range_with_len (λ w. length (messages_of w messages)) 0 workers
 
@@ -49,7 +49,7 @@ upto_take messages (suc i) n le =
     ap (λ (m : Push). if suc i == 0 then 0 else m.update + 1)
     (get_or-take n messages (suc i - 1) (record { worker = 0; packet = 0; update = 0; key = zero_key; cell = 0; amount = pos 0 }) (omega (arith, le)))
 
-upto_firsts : (xs all : List Push) → xs ≡ take (length xs) all → upto_of all (length xs) ≡ upto_of xs (length xs)
+pub upto_firsts : (xs all : List Push) → xs ≡ take (length xs) all → upto_of all (length xs) ≡ upto_of xs (length xs)
 upto_firsts xs all first = sym (upto_take all (length xs) (length xs) (omega arith)) ∙ ap (λ (l : List Push). upto_of l (length xs)) (sym first)
 
 -- the last updates of first messages are those at their front

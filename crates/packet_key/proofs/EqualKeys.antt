@@ -1,11 +1,12 @@
--- Keys that `==` finds equal are one.
-use Rattle.std.proofs.Common.{◌≡◌, ℕ, true, ◌&&◌, ◌==◌}
+-- `==` finds two keys equal exactly where they are one.
+use Rattle.std.proofs.Common.{◌≡◌, ◌↔◌, ℕ, true, ◌&&◌, ◌==◌, subst}
 use Rattle.std.specs.Str.{bytes_eq}
 use Rattle.std.proofs.lemmas.Bool.{and_parts, eqb-true}
 use Rattle.std.proofs.lemmas.Slice.Eq.{bytes_eq-Decides}
 use Rattle.packet_key.specs.declared.key.FlowKey.{FlowKey}
 use Rattle.packet_key.specs.declared.key.FlowKey.TheVariants.{V4, V6}
-use Rattle.hash_rows.specs.Keys.{same_key}
+use Rattle.packet_key.specs.contracts.key.FlowKeyEq.TheImpl.Laws.{laws-law}
+use Rattle.packet_key.specs.Keys.{same_key}
 
 -- the tests of ports and protocol
 same_tail : (c d e c' d' e' : ℕ) → ((c == c') && ((d == d') && (e == e'))) ≡ true → (c ≡ c') × (d ≡ d') × (e ≡ e')
@@ -31,3 +32,9 @@ same_key-eq (V6 a b c d e) (V6 a' b' c' d' e') same =
     let source : a ≡ a' = (bytes_eq-Decides a a').0 first.0 in
     let target : b ≡ b' = (bytes_eq-Decides b b').0 second.0 in
     cc (tail.0, tail.1, tail.2)
+
+pub eq-same_key : (a b : FlowKey) → a ≡ b → same_key a b ≡ true
+eq-same_key a b one = subst (λ (k : FlowKey). same_key a k ≡ true) one (laws-law.refl a)
+
+pub same_key_is : (a b : FlowKey) → (same_key a b ≡ true) ↔ (a ≡ b)
+same_key_is a b = (same_key-eq a b, eq-same_key a b)

@@ -1,0 +1,7 @@
+pub mod Fronts
+pub mod Told
+pub mod Fitting
+pub mod Sequentials
+pub mod Threads
+pub mod Wholes
+pub mod Nears
