@@ -1,6 +1,6 @@
 ghost use Rattle.std.specs.Prelude.{◌≡◌, ◌≤◌, ◌<◌, ◌+◌, ◌^◌, length};
 
-use crate::{InPass, Lane, OutPass};
+use push_lane::{InPass, Lane, OutPass};
 use hash_rows::Push;
 use packet_key::FlowKey;
 use std::sync::Wait;
