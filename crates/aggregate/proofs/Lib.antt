@@ -1,3 +1,3 @@
 pub mod Grown
 pub mod Kept
-pub mod Swept
+pub mod Sweeping

@@ -1,7 +1,7 @@
 use Rattle.std.proofs.Common.{◌≡◌, List, length}
 use Rattle.hash_rows.specs.declared.shape.Push.{Push}
 use Rattle.aggregate.specs.Takens.{AreEnds, takens}
-use Rattle.aggregate.proofs.Swept.{with_more}
+use Rattle.aggregate.proofs.Sweeping.{with_more}
 use Rattle.aggregate.proofs.aggregator.drop_lane.Given as goal
 
 abbrev pub invariant-loop-count : goal.invariant-loop-count

@@ -5,7 +5,7 @@ use Rattle.aggregate.specs.Sweeps.{HasSweptLane, HasTaken, KeepsPair, Aggregator
 use Rattle.aggregate.specs.Takens.{AreEnds, takens}
 use Rattle.aggregate.proofs.Grown.{with_one}
 use Rattle.aggregate.proofs.Kept.{ends_within, same_self, same_then, swept_one}
-use Rattle.aggregate.proofs.Swept.{lane_more, lane_none}
+use Rattle.aggregate.proofs.Sweeping.{lane_more, lane_none}
 use Rattle.aggregate.proofs.aggregator.Aggregator.sweep_lane.Goals as goal
 
 pub loop-count-init : goal.loop-count-init
