@@ -1,18 +1,11 @@
 //! Workers that count side by side: runs in rounds.
 #![tactic(auto)]
 
-mod answers;
-mod block;
-mod counts;
-mod ending;
-mod fold;
 mod looks;
-mod part;
-mod positions;
 mod rounds;
+mod run;
 mod settle;
-mod settled;
 mod setup;
-mod shares;
+mod worker;
 
-pub use settled::{Settled, run_rounds};
+pub use run::{Settled, run_rounds};

@@ -1,3 +1,4 @@
+//! What a run begins with.
 ghost use Rattle.std.specs.Prelude.{◌≡◌, ◌<◌, ◌≤◌, ◌^◌, ◌+◌, ◌*◌, ℕ, [], All, length, IfOk, OnOk};
 ghost use Rattle.hash_rows.specs.Lawful.{IsLawful};
 ghost use Rattle.hash_rows.specs.Shapes.{size_of};
@@ -7,18 +8,17 @@ ghost use Rattle.push_history.specs.Share.{share_of_worker};
 ghost use Rattle.push_rule.specs.Keeps.{Keeps};
 ghost use Rattle.live_state.specs.Fold.{fresh_state};
 ghost use Rattle.octo_engine.specs.Looks.{layout_in};
-ghost use Rattle.octo_engine.specs.Owners.{AreOwners};
+ghost use Rattle.shares.specs.Owners.{AreOwners};
 ghost use Rattle.octo_engine.specs.Parts.{IsSound, block};
 ghost use Rattle.octo_engine.specs.Rounds.{AreParts, Suit};
 
-use crate::part::{BLOCK, Part};
-use crate::shares::{Owners, amounts_fit, owners_of, positions_of};
-use push_rule::Counter;
+use crate::worker::{BLOCK, Part};
+use shares::{Owners, amounts_fit, owners_of, positions_of};
+use push_rule::{Counter, Private};
 use flow_base::NoMemory;
 use hash_rows::{Kind, Options, Packet};
 use listed::Listed;
 use live_state::State;
-use push_rule::Private;
 use std::alloc::Global;
 
 /// The parts of all workers, which have counted nothing.
