@@ -8,4 +8,5 @@ pub mod RowLists
 pub mod SumLaws
 pub mod Values
 pub mod WordCounts
+pub mod WordRanges
 pub mod Words

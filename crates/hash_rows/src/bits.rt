@@ -1,5 +1,6 @@
-ghost use Rattle.std.specs.Prelude.{◌≡◌, ◌<◌, ◌*◌, ◌^◌, length, replicate, IfOk, slice_set, slice_index_or, count_by, true, false};
-ghost use Rattle.hash_rows.specs.Words.{bits_in};
+ghost use Rattle.std.specs.Prelude.{◌≡◌, ◌<◌, ◌≤◌, ◌+◌, ◌-◌, ◌*◌, ◌/◌, ◌%◌, ◌^◌, ◌++◌, ◌||◌, ℕ, length, replicate, take, drop, IfOk, slice_set, slice_index_or, count_by, true, false};
+ghost use Rattle.std.specs.Int.{bit_at};
+ghost use Rattle.hash_rows.specs.Words.{bits_in, is_set_in, is_between};
 
 use flow_base::NoMemory;
 use listed::Listed;
@@ -62,6 +63,28 @@ impl Bits {
             .set(place / PER_WORD, word | (1 << (place % PER_WORD)));
     }
 
+    /// Sets the bits from the start up to the end, word by word.
+    pub fn set_range(&mut self, start: u32, end: u32)
+        requires { (start ≤ end) × (end ≤ length self.old) }
+        ensures { self.new ≡ take start self.old ++ replicate (end - start) true ++ drop end self.old }
+    {
+        set_between(&mut self.words, start, end);
+    }
+
+    /// The first place from the start on whose bit is set, or else the number of bits. It looks at
+    /// whole words.
+    pub fn next(&self, start: u32) -> u32
+        requires { start ≤ length self.now }
+        ensures low { start ≤ result }
+        ensures high { result ≤ length self.now }
+        ensures before { (k : ℕ) → start ≤ k → k < result → slice_index_or self.now k false ≡ false }
+        ensures found { result < length self.now → slice_index_or self.now result false ≡ true }
+    {
+        let len = self.len as usize;
+        let place = set_from(self.words.as_slice(), start as usize);
+        place.min(len) as u32
+    }
+
     /// How many bits are set.
     pub fn count(&self) -> u32
         ensures { result ≡ count_by (λ mark. mark) self.now }
@@ -81,4 +104,68 @@ fn set_in(words: &[u64]) -> usize
         count += word.count_ones() as usize;
     }
     count
+}
+
+// Sets so many bits of one word, from the place on.
+fn set_in_word(words: &mut Listed<u64>, place: u32, count: u32)
+    requires some { 0 < count }
+    requires one_word { place % 64 + count ≤ 64 }
+    requires within { place / 64 < length words.old.items }
+    ensures len { length words.new.items ≡ length words.old.items }
+    ensures bits { (k : ℕ) → is_set_in words.new.items k ≡ (is_between place (place + count) k || is_set_in words.old.items k) }
+{
+    let low = place % PER_WORD;
+    let ones = (u64::MAX << low) & (u64::MAX >> (PER_WORD - low - count));
+    let word = *words.get(place / PER_WORD);
+    words.set(place / PER_WORD, word | ones);
+}
+
+// Sets the bits from the start up to the end.
+fn set_between(words: &mut Listed<u64>, start: u32, end: u32)
+    requires { (start ≤ end) × (end ≤ length words.old.items * 64) }
+    ensures len { length words.new.items ≡ length words.old.items }
+    ensures bits { (k : ℕ) → is_set_in words.new.items k ≡ (is_between start end k || is_set_in words.old.items k) }
+{
+    let mut place = start;
+    while place < end {
+        let count = (end - place).min(PER_WORD - place % PER_WORD);
+        set_in_word(words, place, count);
+        place += count;
+    }
+}
+
+// The first set bit of the word from this one on, or else 64.
+fn bit_from(word: u64, low: usize) -> usize
+    requires { low < 64 }
+    ensures low { low ≤ result }
+    ensures high { result ≤ 64 }
+    ensures before { (k : ℕ) → low ≤ k → k < result → bit_at word k ≡ 0 }
+    ensures found { result < 64 → bit_at word result ≡ 1 }
+{
+    let rest = word & (u64::MAX << low);
+    if rest == 0 {
+        64
+    } else {
+        rest.trailing_zeros() as usize
+    }
+}
+
+// The first set bit of the words from this one on, or else the number of bits.
+fn set_from(words: &[u64], start: usize) -> usize
+    requires few { length words.now < 2 ^ 32 }
+    requires within { start ≤ length words.now * 64 }
+    ensures low { start ≤ result }
+    ensures high { result ≤ length words.now * 64 }
+    ensures before { (k : ℕ) → start ≤ k → k < result → is_set_in words.now k ≡ false }
+    ensures found { result < length words.now * 64 → is_set_in words.now result ≡ true }
+{
+    let mut low = start % 64;
+    for row in start / 64..words.len() {
+        let bit = bit_from(words[row], low);
+        if bit < 64 {
+            return row * 64 + bit;
+        }
+        low = 0;
+    }
+    words.len() * 64
 }

@@ -68,6 +68,32 @@ fn sets_bits_on_both_sides_of_a_border(rt: HostRuntime) -> Result<(), Fail> {
 }
 
 #[test]
+fn sets_ranges_and_finds_the_next_bit(rt: HostRuntime) -> Result<(), Fail> {
+    let mut bits = Bits::new(rt.alloc(), 200)?;
+    bits.set_range(60, 130);
+    assert_eq!(rt; bits.len(), 200);
+    bits.set_range(199, 200);
+    assert_eq!(rt; bits.len(), 200);
+    bits.set_range(150, 150);
+    assert_eq!(rt; bits.len(), 200);
+    for place in 0..bits.len() {
+        assert_eq!(rt; bits.get(place), matches!(place, 60..130 | 199));
+    }
+    for (start, next) in [
+        (0, 60),
+        (61, 61),
+        (129, 129),
+        (130, 199),
+        (199, 199),
+        (200, 200),
+    ] {
+        assert_eq!(rt; bits.next(start), next);
+    }
+    assert_eq!(rt; bits.count(), 71);
+    Ok(())
+}
+
+#[test]
 fn begins_an_answer(rt: HostRuntime) -> Result<(), Fail> {
     let answer = Answer::new(rt.alloc(), 1, 2, 3, 4)?;
     assert_eq!(rt; (answer.reader, answer.number, answer.folded), (1, 2, 0));
