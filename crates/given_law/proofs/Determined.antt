@@ -195,7 +195,7 @@ module _ (r : Rules) (w T : ℕ) (U : List Update) (F : List ℕ) where
   unfolding message_of
   next_before n m S le = next_by (λ t. messages_before m t ≡ messages_before m S) n S refl (before_later S (message_of r w U S n) m le)
 
-  before_back : (many n : ℕ) → n ≤ many → messages_before n (given_before r w T U F many) ≡ given_before r w T U F n
+  pub before_back : (many n : ℕ) → n ≤ many → messages_before n (given_before r w T U F many) ≡ given_before r w T U F n
   before_back zero n le = let e : 0 ≡ n = omega (arith, le) in subst (λ (k : ℕ). messages_before k (given_before r w T U F 0) ≡ given_before r w T U F k) e refl
   before_back (suc many) n le = elim (eq-or-lt_of_le le) [
     | inl same ↦ subst (λ (k : ℕ). messages_before k (given_before r w T U F (suc many)) ≡ given_before r w T U F k) (sym same)
@@ -203,7 +203,7 @@ module _ (r : Rules) (w T : ℕ) (U : List Update) (F : List ℕ) where
     | inr lt ↦ next_before many n (given_before r w T U F many) (omega (arith, lt)) ∙ before_back many n (omega (arith, lt))
   ]
 
-  distance_back : (many n : ℕ) → n ≤ many → distance_at r U (given_before r w T U F many) n ≡ distance_at r U (given_before r w T U F n) n
+  pub distance_back : (many n : ℕ) → n ≤ many → distance_at r U (given_before r w T U F many) n ≡ distance_at r U (given_before r w T U F n) n
   distance_back many n le = distance_by_before r U (given_before r w T U F many) n ∙ ap (λ (t : List Push). distance_at r U t n) (before_back many n le)
 
   told_back : (many n c : ℕ) → n ≤ many → told r (given_before r w T U F many) n c ≡ told r (given_before r w T U F n) n c
