@@ -1,0 +1,7 @@
+pub mod Tests
+pub mod LineNumbers
+pub mod Forms
+pub mod WorkerTests
+pub mod AnswerTests
+pub mod LiveTests
+pub mod Judged
