@@ -21,7 +21,8 @@ pub struct Loading {
 }
 
 impl Loading {
-    ghost use Rattle.capture_load.specs.Loads.{Loads, Counts, StopsIn};
+    ghost use Rattle.pcap_read.specs.Takes.{most_bytes};
+    ghost use Rattle.capture_load.specs.Loads.{Loads, Counts, StopsIn, record_limit};
 
     /// Takes the whole piece.
     pub fn feed(&mut self, piece: &[u8]) -> Result<(), LoadStop>
@@ -32,7 +33,7 @@ impl Loading {
             (StopsIn (bytes ++ piece.now)) }
         ensures counts { OnOk result (Counts self.new) }
         ensures bytes { OnOk result (self.new.reader.bytes ≡ self.old.reader.bytes + length piece.now) }
-        ensures most { OnOk result (0 < length piece.now → self.new.reader.bytes ≤ 24 + 262160 * 16777217) }
+        ensures most { OnOk result (0 < length piece.now → self.new.reader.bytes ≤ most_bytes record_limit) }
         ensures amount { self.new.amount ≡ self.old.amount }
     {
         let mut at = 0;
@@ -57,15 +58,20 @@ impl Loading {
         ensures bound { IfOk result (λ used. used ≤ length piece.now) }
         ensures counts { OnOk result (Counts self.new) }
         ensures bytes { IfOk result (λ used. self.new.reader.bytes ≡ self.old.reader.bytes + used) }
-        ensures most { OnOk result (self.new.reader.bytes ≤ 24 + 262160 * 16777217) }
+        ensures most { OnOk result (self.new.reader.bytes ≤ most_bytes record_limit) }
         ensures amount { self.new.amount ≡ self.old.amount }
     {
         match self.reader.take_at_front(piece) {
             None => self.step_in_parts(piece),
-            Some(frame) => {
-                match note(&mut self.packets, &mut self.skipped, self.amount, &frame) {
+            Some(front) => {
+                match note(
+                    &mut self.packets,
+                    &mut self.skipped,
+                    self.amount,
+                    &front.frame,
+                ) {
                     Err(_) => Err(LoadStop::NoMemory),
-                    Ok(()) => Ok(16 + frame.bytes.len()),
+                    Ok(()) => Ok(front.used),
                 }
             }
         }
@@ -83,7 +89,7 @@ impl Loading {
         ensures bound { IfOk result (λ used. used ≤ length piece.now) }
         ensures counts { OnOk result (Counts self.new) }
         ensures bytes { IfOk result (λ used. self.new.reader.bytes ≡ self.old.reader.bytes + used) }
-        ensures most { OnOk result (self.new.reader.bytes ≤ 24 + 262160 * 16777217) }
+        ensures most { OnOk result (self.new.reader.bytes ≤ most_bytes record_limit) }
         ensures amount { self.new.amount ≡ self.old.amount }
     {
         match self.reader.take(piece) {

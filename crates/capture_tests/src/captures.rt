@@ -181,7 +181,9 @@ fn a_whole_record_is_lent_from_the_piece(rt: HostRuntime) -> Result<(), Fail> {
     assert!(rt; reader.take_at_front(&REC[..69]).is_none());
     let input = joined(rt.alloc(), &[REC, REC])?;
     match reader.take_at_front(&input) {
-        Some(frame) => {
+        Some(front) => {
+            let frame = front.frame;
+            assert_eq!(rt; front.used, 70);
             assert_eq!(rt; frame.original, 54);
             assert_eq!(rt; frame.bytes, &REC[16..]);
         }

@@ -1,5 +1,5 @@
 -- A record that is taken where it stands, at the front of a piece.
-use Rattle.std.proofs.Common.{◌≡◌, ◌<◌, ◌≤◌, ℕ, ◌+◌, ◌-◌, List, [], ◌∷◌, ◌++◌, length, take, drop, Some, None, refl, sym, ap, ◌∙◌, subst, arith, length-take, length-drop}
+use Rattle.std.proofs.Common.{◌≡◌, ◌<◌, ◌≤◌, ℕ, ◌+◌, ◌-◌, List, [], ◌∷◌, ◌++◌, length, take, drop, Some, None, refl, sym, ap, ◌∙◌, subst, arith, length-take}
 use Rattle.std.proofs.lemmas.List.{take-append-drop, drop-take}
 use Rattle.pcap_read.specs.Records.{Framed, captured, frame_of, original}
 use Rattle.pcap_read.specs.Place.{Place, Stands}
@@ -23,14 +23,12 @@ behind_head piece n long = subst (λ (m : ℕ). drop 16 (take m piece) ≡ take 
 pub front_taken : (old new : Place) (order : Order) (b piece : List ℕ) (n number : ℕ) (fs : List Framed) → old.order ≡ Some order → new.order ≡ Some order → new.limit ≡ old.limit
     → new.kept ≡ None → new.count ≡ old.count + 1 → new.bytes ≡ old.bytes + n → old.held ≡ [] → new.held ≡ [] → 16 ≤ n → n ≤ length piece
     → captured order piece ≤ 262144 → n ≡ 16 + captured order piece → old.count < old.limit → number ≡ original order piece → Stands old b fs
-    → Stands new (b ++ take (16 + length (take (n - 16) (drop 16 piece))) piece) (fs ++ framed number (take (n - 16) (drop 16 piece)) ∷ [])
+    → Stands new (b ++ take n piece) (fs ++ framed number (take (n - 16) (drop 16 piece)) ∷ [])
 front_taken old new order b piece n number fs was is limit going count bytes none no_more long bound small len few number_is stands =
     let x = take n piece in
     let whole = holds_front order piece x n refl long bound small len in
     let frame : frame_of order (record_of x) ≡ framed number (take (n - 16) (drop 16 piece)) =
     sym (frame_whole order x whole) ∙ ap (λ (k : ℕ). framed k (drop 16 x)) (original_front order n piece long bound ∙ sym number_is)
     ∙ ap (λ (t : List ℕ). framed number t) (behind_head piece n long) in
-    let size : n ≡ 16 + length (take (n - 16) (drop 16 piece)) = omega (arith, long, bound, length-take (n - 16) (drop 16 piece), length-drop 16 piece) in
     let stood = stands_whole old new order b x x fs was is limit going count (omega (arith, bytes, bound, length-take n piece)) (ap (λ (t : List ℕ). t ++ x) (sym none)) no_more whole few stands in
-    subst (λ (f : Framed). Stands new (b ++ take (16 + length (take (n - 16) (drop 16 piece))) piece) (fs ++ f ∷ [])) frame
-    (subst (λ (m : ℕ). Stands new (b ++ take m piece) (fs ++ frame_of order (record_of x) ∷ [])) size stood)
+    subst (λ (f : Framed). Stands new (b ++ take n piece) (fs ++ f ∷ [])) frame stood

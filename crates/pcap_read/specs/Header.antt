@@ -6,6 +6,10 @@ use Rattle.pcap_read.specs.declared.bad.Bad.TheVariants.{UnknownMagic, PcapNg, B
 use Rattle.pcap_read.specs.declared.bad.Order.{Order}
 use Rattle.pcap_read.specs.declared.bad.Order.TheVariants.{Little, Big}
 
+-- how many bytes the header has
+abbrev pub header_len : ℕ
+header_len = 24
+
 -- the number in n bytes at the place
 unfoldable pub number_at : Order → ℕ → List ℕ → ℕ → ℕ
 number_at Little n bytes at = little_number n (drop at bytes)
@@ -31,7 +35,7 @@ refusal_in (Some order) bytes =
     if nat_lt (length bytes) 8 then None
     else if not (number_at order 2 bytes 4 == 2 && number_at order 2 bytes 6 == 4)
     then Some (BadVersion (number_at order 2 bytes 4) (number_at order 2 bytes 6))
-    else if nat_lt (length bytes) 24 then None
+    else if nat_lt (length bytes) header_len then None
     else if not (link_of order bytes == 1) then Some (NotEthernet (link_of order bytes))
     else None
 
@@ -41,11 +45,11 @@ header_refusal bytes = if nat_lt (length bytes) 4 then None else refusal_in (ord
 
 -- a header that isn't refused, of this order, stands at the front
 pub record HasHeader (order : Order) (bytes : List ℕ) : Type 0 where
-  pub long : 24 ≤ length bytes
-  pub fine : header_refusal (take 24 bytes) ≡ None
-  pub order_is : order_of (big_number 4 (take 24 bytes)) ≡ Some order
+  pub long : header_len ≤ length bytes
+  pub fine : header_refusal (take header_len bytes) ≡ None
+  pub order_is : order_of (big_number 4 (take header_len bytes)) ≡ Some order
 
 -- part of a header, and not refused
 pub record IsShort (bytes : List ℕ) : Type 0 where
-  pub few : length bytes < 24
+  pub few : length bytes < header_len
   pub fine : header_refusal bytes ≡ None

@@ -5,7 +5,15 @@ use Rattle.pcap_read.specs.declared.bad.Bad.{Bad}
 use Rattle.pcap_read.specs.declared.bad.Bad.TheVariants.{TooLong, TooMany}
 use Rattle.pcap_read.specs.declared.bad.Order.{Order}
 
--- 16 bytes, and then the captured ones
+-- how many bytes a record's head has
+abbrev pub head_len : ℕ
+head_len = 16
+
+-- the most captured bytes of a record
+abbrev pub most_captured : ℕ
+most_captured = 262144
+
+-- the head, and then the captured bytes
 pub record Record : Type 0 where
   pub head : List ℕ
   pub bytes : List ℕ
@@ -21,9 +29,9 @@ abbrev pub original : Order → List ℕ → ℕ
 original order bytes = number_at order 4 bytes 12
 
 pub record IsRecord (order : Order) (r : Record) : Type 0 where
-  pub head : length r.head ≡ 16
+  pub head : length r.head ≡ head_len
   pub bytes : length r.bytes ≡ captured order r.head
-  pub small : captured order r.head ≤ 262144
+  pub small : captured order r.head ≤ most_captured
 
 -- how many bytes a packet had, and those of them that were captured
 pub record Framed : Type 0 where
@@ -37,11 +45,11 @@ frame_of order r = record { original = original order r.head; bytes = r.bytes }
 unfoldable pub record_refusal : Order → ℕ → ℕ → ℕ → List ℕ → Option Bad
 record_refusal order limit count offset bytes =
     if count == limit then Some TooMany
-    else if nat_lt 262144 (captured order bytes) then Some (TooLong offset (captured order bytes))
+    else if nat_lt most_captured (captured order bytes) then Some (TooLong offset (captured order bytes))
     else None
 
 -- less than the next record, and not refused
 abbrev pub IsRest : Order → ℕ → ℕ → List ℕ → Type 0
 IsRest order limit count rest =
-    (length rest < 16)
-    ⊎ ((16 ≤ length rest) × (count < limit) × (captured order rest ≤ 262144) × (length rest < 16 + captured order rest))
+    (length rest < head_len)
+    ⊎ ((head_len ≤ length rest) × (count < limit) × (captured order rest ≤ most_captured) × (length rest < head_len + captured order rest))

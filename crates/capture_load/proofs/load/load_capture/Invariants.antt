@@ -1,7 +1,8 @@
 use Rattle.std.proofs.Common.{◌≡◌, ◌≤◌, ◌+◌, ◌-◌, ◌*◌, ℕ, List}
 use Rattle.flow_base.specs.Flow.{behind}
 use Rattle.pcap_read.specs.Records.{Framed}
-use Rattle.capture_load.specs.Loads.{Loads, Counts}
+use Rattle.pcap_read.specs.Takes.{most_bytes}
+use Rattle.capture_load.specs.Loads.{Loads, Counts, record_limit}
 use Rattle.capture_load.proofs.load.load_capture.Given as goal
 
 abbrev pub invariant-loop-loading : goal.invariant-loop-loading
@@ -12,4 +13,4 @@ invariant-loop-loading g l =
     × (l.loading.amount ≡ l.fn.amount)
 
 abbrev pub decreases-loop-loading : goal.decreases-loop-loading
-decreases-loop-loading g l = 24 + 262160 * 16777217 - l.loading.reader.bytes
+decreases-loop-loading g l = most_bytes record_limit - l.loading.reader.bytes
