@@ -1,7 +1,7 @@
+use flow_base::NoMemory;
 use pcap_read::{
     Bad, Reader, capture_fine, one_outcome, one_reading, one_refusal, refusal_stays, standing,
 };
-use flow_base::NoMemory;
 use std::alloc::{AllocError, Global};
 use std::test::Fail;
 

@@ -163,7 +163,9 @@ fn extended(
     ensures { IfSome result (λ s. s ≡ longer stamp.now message) }
 {
     let mut seen = stamp.seen.again();
-    let mut offer: Offer<Push, u64, HistoryRule, Nothing> = seen.plain::<Nothing, Push, Add>(&message);
+    let mut offer: Offer<Push, u64, HistoryRule, Nothing> = seen.plain::<Nothing, Push, Add>(
+        &message,
+    );
     let mut pen = seen.no_pen();
     let found = head.compare_exchange::<Add, Nothing>(
         count,

@@ -4,7 +4,6 @@ ghost use Rattle.hash_rows.specs.Shapes.{IsShape};
 ghost use Rattle.live_view.specs.Views.{layout_for};
 
 use crate::history::HistoryWriter;
-use live_state::Layout;
 use crate::published::Published;
 use crate::view::View;
 use crate::writer::ViewWriter;
@@ -12,6 +11,7 @@ use flow_base::NoMemory;
 use hash_rows::{Kind, Shape};
 use left_right::writer::Writer;
 use listed::Listed;
+use live_state::Layout;
 use std::alloc::Global;
 use std::sync::Wait;
 

@@ -6,12 +6,11 @@ ghost use Rattle.live_state.specs.Fold.{fresh_state};
 ghost use Rattle.live_view.specs.Rule.{turned};
 
 use crate::history::{Entry, HistoryPrefix};
-use live_state::Layout;
-use live_state::Tally;
 use flow_base::NoMemory;
 use hash_rows::{Cells, Kind, Shape};
 use left_right::Absorb;
 use listed::Listed;
+use live_state::{Layout, Tally};
 use packet_key::FlowKey;
 use std::alloc::{AllocError, Global};
 use std::marker::{Model, PhantomData};
@@ -41,7 +40,11 @@ impl<K: Kind> Model for Published<K> {
 
 impl<K: Kind> Published<K> {
     /// The state with no message.
-    pub fn new(alloc: Global, layout: &Layout, stamp: HistoryPrefix) -> Result<Published<K>, NoMemory>
+    pub fn new(
+        alloc: Global,
+        layout: &Layout,
+        stamp: HistoryPrefix,
+    ) -> Result<Published<K>, NoMemory>
         requires shape { IsShape layout.now.shape }
         requires heavy { (1 ≤ layout.now.heavy) × (layout.now.heavy ≤ 1024) }
         ensures figures { IfOk result (λ page. page.figures ≡ fresh_state layout.now) }

@@ -1,9 +1,9 @@
 //! The rule of a published pair.
-use live_state::Layout;
 use crate::published::Published;
 use atomic_table::{Join, Split};
 use crossbeam_utils::rule::{Outcome, Protocol};
 use hash_rows::{Kind, Push};
+use live_state::Layout;
 
 /// Which book it is. No value of it is made.
 pub struct Name {

@@ -7,13 +7,13 @@ ghost use Rattle.live_view.specs.Rule.{notes, paired, pair_of};
 ghost use mathlib.Core.List.{IsPrefix};
 
 use crate::copies::copy;
-use live_state::Layout;
 use crate::published::Published;
 use crate::rule::{Enters, Law, Notes};
 use crate::told::Told;
 use crossbeam_utils::rule::Protocol;
 use hash_rows::{Answer, Kind};
 use left_right::reader::Reader;
+use live_state::Layout;
 use packet_key::FlowKey;
 use std::marker::Model;
 use std::sync::Wait;

@@ -5,11 +5,9 @@ ghost use Rattle.left_right.specs.Sides.{view};
 ghost use Rattle.live_state.specs.Fold.{fits, absorbed, fresh_state, layout_of, most, state_after, Fit, IsStateAfter};
 ghost use Rattle.live_view.specs.Rule.{notes, pair_of, turned, messages, IsChain};
 
-use crate::history::{HistoryWriter, Entry};
-use live_state::Layout;
+use crate::history::{Entry, HistoryWriter};
 use crate::published::Published;
 use crate::rule::{Law, Notes, Pairs, Publishes, Tells};
-use live_state::State;
 use crate::told::Told;
 use crate::view::View;
 use core::mem::replace_with;
@@ -19,6 +17,7 @@ use hash_rows::{Kind, Push, Shape};
 use left_right::Absorb;
 use left_right::reader::{Factory, Reader};
 use left_right::writer::Writer;
+use live_state::{Layout, State};
 use std::marker::Model;
 use std::sync::Wait;
 

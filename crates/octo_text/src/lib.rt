@@ -15,4 +15,3 @@ pub use journal::{Journal, write_journal, write_journal_in};
 pub use laws::maximal_runs;
 pub use line::Line;
 pub use report::{Report, write_report};
-

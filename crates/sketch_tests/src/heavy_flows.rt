@@ -1,7 +1,7 @@
-use heavy_keys::*;
 use count_min::CountMin;
 use flow_base::NoMemory;
 use hash_rows::{Flow, Packet, Shape, Table, cell_of};
+use heavy_keys::*;
 use packet_key::FlowKey;
 use std::alloc::Global;
 use std::test::Fail;

@@ -1,6 +1,5 @@
 ghost use Rattle.std.specs.Prelude.{◌≡◌};
 
-use reports::*;
 use count_min::CountMin;
 use count_sketch::CountSketch;
 use flow_base::NoMemory;
@@ -11,6 +10,7 @@ use listed::Listed;
 use loglog_regs::LogLog;
 use octo_text::Report;
 use packet_key::FlowKey;
+use reports::*;
 use std::alloc::Global;
 use std::test::Fail;
 

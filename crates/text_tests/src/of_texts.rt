@@ -4,13 +4,13 @@ ghost use Rattle.hash_rows.specs.Lawful.{IsLawful};
 ghost use Rattle.push_history.specs.Journal.{keys_of};
 ghost use Rattle.octo_text.specs.Content.{IsComplete};
 
-use octo_text::{Journal, Report, maximal_runs, write_journal, write_report};
 use flow_base::{Failed, MemSink, NoMemory};
 use hash_rows::{
     Amount, Answer, Answers, BitRows, Bits, Flow, Full, Mode, Options, Shape, Share, Sketch,
     Tallies,
 };
 use listed::Listed;
+use octo_text::{Journal, Report, maximal_runs, write_journal, write_report};
 use packet_key::FlowKey;
 use std::alloc::Global;
 use std::process::Abort;

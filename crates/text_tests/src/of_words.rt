@@ -1,8 +1,8 @@
-use words::{Command, WordStop, read_words};
 use hash_rows::{Amount, Full, Mode, Options, Shape, Share, Sketch};
 use packet_key::parse_key;
 use std::alloc::Global;
 use std::test::Fail;
+use words::{Command, WordStop, read_words};
 
 fn read(alloc: Global, words: &[&str]) -> Result<Option<Command>, Fail> {
     let mut owned = Vec::new(alloc);

@@ -10,6 +10,7 @@ ghost use Rattle.thread_run.specs.Rest.{HasFolded, IsRestDone};
 use crate::folding::fold_all;
 use crate::parts::{FoldPart, ReaderPart, RestPart};
 use crate::reading::read;
+use beside::beside;
 use hash_rows::Kind;
 use packet_key::FlowKey;
 use push_lane::Lane;
@@ -17,7 +18,6 @@ use std::sync::Wait;
 use std::sync::atomic::AtomicU64;
 use std::thread::{Threads, for_each_mut};
 use thread_work::Gate;
-use beside::beside;
 
 // Runs the readers beside each other.
 fn run_readers<K: Kind, R: Threads + Wait + Sync, G: Gate>(
