@@ -9,3 +9,4 @@ pub mod SumLaws
 pub mod Values
 pub mod WordCounts
 pub mod Words
+pub mod PlainSums
