@@ -10,3 +10,4 @@ pub mod Values
 pub mod WordCounts
 pub mod WordRanges
 pub mod Words
+pub mod PlainSums

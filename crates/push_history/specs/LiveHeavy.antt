@@ -48,5 +48,6 @@ notes_of r shape messages = map (note_at r shape messages) (range_with_len 0 (le
 unfoldable pub live_keys : Rules → Shape → ℕ → ℤ → List Push → List FlowKey
 live_keys r shape limit least messages = if r.keyed then live_of limit least (notes_of r shape messages) else []
 
+-- how many of their notes were missed
 unfoldable pub missed_keys : Rules → Shape → ℕ → ℤ → List Push → ℕ
 missed_keys r shape limit least messages = if r.keyed then missed_of limit least (notes_of r shape messages) else 0

@@ -17,7 +17,7 @@ use Rattle.hash_rows.specs.Sequential.{joined_of}
 use Rattle.hash_rows.specs.Shapes.{cell_of, size_of}
 use Rattle.hash_rows.specs.Sketches.{is_sum, least_of, count_min_estimate, key_cells}
 use Rattle.hash_rows.specs.Tables.{value_at}
-use Rattle.count_min.proofs.NeverBelow.{amount_sum}
+use Rattle.hash_rows.proofs.PlainSums.{amount_sum}
 use Rattle.push_history.specs.Front.{IsFront}
 use Rattle.push_history.specs.LawfulJournal.{sent_by}
 use Rattle.push_history.specs.Pushes.{ArePushes}
@@ -25,8 +25,8 @@ use Rattle.push_history.specs.Shown.{first_messages, shown_of, shown_cells}
 use Rattle.push_history.specs.Told.{told_of}
 use Rattle.push_history.specs.Updates.{HoldValues}
 use Rattle.push_history.proofs.Notes.{map_range_same}
-use Rattle.fold_law.specs.Bracket.{AreAmounts, amount_in, updates_of_worker, matching, matching_whole, true_of, true_cells, NoneRefused}
-use Rattle.fold_law.proofs.Bracket.{joined_plain, sum_flat, front_messages, firsts_are, least_more, front_below, front_plain, front_short, whole_front}
+use Rattle.bracket.specs.Bracket.{AreAmounts, amount_in, updates_of_worker, matching, matching_whole, true_of, true_cells, NoneRefused}
+use Rattle.bracket.proofs.Bracket.{joined_plain, sum_flat, front_messages, firsts_are, least_more, front_below, front_plain, front_short, whole_front}
 use Rattle.fold_law.proofs.Sums.{count_min, IsPlain, plain_told, plain_whole, told_plain}
 use Rattle.fold_law.proofs.Totals.{member_le, sum_range_le, sum_places}
 

@@ -13,8 +13,8 @@ use Rattle.push_history.specs.declared.event.Event.TheVariants.{Ask}
 use Rattle.push_history.specs.LagRun.{Terms, State, Worker, lag_run}
 use Rattle.push_history.specs.Answers.{AnswerParts, is_ask, answer_in, answers_to}
 use Rattle.push_history.specs.Rounds.{ask_in_round}
-use Rattle.push_history.proofs.RoundSteps.{SameRun}
-use Rattle.push_history.proofs.AskLists.{asked, own_ask, quiet_event, asked_count}
+use Rattle.round_law.proofs.RoundSteps.{SameRun}
+use Rattle.round_law.proofs.AskLists.{asked, own_ask, quiet_event, asked_count}
 
 -- states that differ in what readers have seen alone answer alike
 pub same_answer : (t : Terms) (shape : Shape) (keys : List FlowKey) (q k : ℕ) (a b : State) → SameRun a b → answer_in t shape keys q k b ≡ answer_in t shape keys q k a

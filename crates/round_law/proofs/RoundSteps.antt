@@ -11,9 +11,15 @@ use Rattle.push_history.specs.LagRun.{Terms, Worker, State, worker_in, lag_step,
 use Rattle.push_history.specs.Answers.{is_ask}
 use Rattle.push_history.specs.Rounds.{count_in_round, fold_in_round, ask_in_round, with_round}
 use Rattle.push_history.specs.OwnSteps.{held_of, with_taken, next_taken, counted_in_round, folded_in_round, own_round}
-use Rattle.push_history.specs.RoundStates.{IsRound}
 use Rattle.push_history.proofs.Runs.{run_more}
-use Rattle.push_history.proofs.RoundRuns.{Steps, phase_run, counting_is_phase, folding_is_phase, flat_map_same}
+use Rattle.round_law.proofs.RoundRuns.{Steps, phase_run, counting_is_phase, folding_is_phase, flat_map_same}
+
+-- each worker has gone through a round of its own, and what was folded of each lane, in worker order, is shown
+pub record IsRound (t : Terms) (o : Options) (s s' : State) : Type 0 where
+  pub len : length s'.workers ≡ length s.workers
+  pub workers : (w : ℕ) → w < o.workers → worker_in s' w ≡ own_round t o w (worker_in s w)
+  pub folded : s'.folded ≡ s.folded ++ flat_map (λ w. folded_in_round t o w (worker_in s w)) (range_with_len 0 o.workers)
+  pub shown : s'.shown ≡ length s'.folded
 
 -- two states that differ at most in what readers have seen
 pub record SameRun (s s' : State) : Type 0 where

@@ -10,7 +10,7 @@ use Rattle.push_history.specs.declared.event.Event.TheVariants.{Update, Take, Pu
 use Rattle.push_history.specs.LagRun.{Terms, State, lag_step, lag_run, reply_to, start}
 use Rattle.push_history.specs.Answers.{is_ask, asked_in}
 use Rattle.push_history.specs.Rounds.{is_waits, count_times, count_in_round, fold_in_round}
-use Rattle.push_history.proofs.RoundSteps.{before_asks}
+use Rattle.round_law.proofs.RoundSteps.{before_asks}
 
 -- the state after some events, from any state on
 abbrev run_from : Terms → State → List Event → State

@@ -16,10 +16,11 @@ use Rattle.push_history.specs.Pushes.{ArePushes, is_refused}
 use Rattle.push_history.specs.Updates.{IsLastOf}
 use Rattle.push_history.specs.Whole.{whole}
 
--- the updates of worker w, and how many of them match a front
+-- the updates of worker w
 abbrev pub updates_of_worker : List (List Update) → ℕ → List Update
 updates_of_worker updates w = slice_index_or updates w []
 
+-- how many of them match a front
 abbrev pub matching : List (List Push) → List ℕ → ℕ → ℕ
 matching messages front w = upto_of (sent_by messages w) (slice_index_or front w 0)
 
@@ -27,10 +28,11 @@ matching messages front w = upto_of (sent_by messages w) (slice_index_or front w
 unfoldable pub matching_whole : Rules → List (List Update) → List (List Push) → List ℕ → ℕ → ℕ → ℤ
 matching_whole r updates messages front cell w = whole r (updates_of_worker updates w) (matching messages front w) cell
 
--- the join of these over all workers, and the table of it
+-- the join of these over all workers
 unfoldable pub true_of : Rules → List (List Update) → List (List Push) → List ℕ → ℕ → ℤ
 true_of r updates messages front cell = joined_of r (map (matching_whole r updates messages front cell) (range_with_len 0 (length updates)))
 
+-- the table of these joins
 unfoldable pub true_cells : Rules → Shape → List (List Update) → List (List Push) → List ℕ → List ℤ
 true_cells r shape updates messages front = map (true_of r updates messages front) (range_with_len 0 (size_of shape))
 

@@ -9,8 +9,7 @@ use Rattle.std.proofs.lemmas.List.Sums.{sum_by-set}
 use Rattle.hash_rows.specs.declared.shape.Push.{Push}
 use Rattle.push_history.specs.Front.{front_of, message_at, messages_of}
 use Rattle.push_history.specs.LawfulJournal.{NoFurther}
-use Rattle.push_history.proofs.MoreMessages.{front_none, front_at, front_more}
-use Rattle.round_law.proofs.Wholes.{front_len}
+use Rattle.push_history.proofs.MoreMessages.{front_none, front_at, front_more, front_len}
 
 -- one message more is one more in the sum
 sum_more : (front : List ℕ) (w : ℕ) → w < length front → sum (set front w (get_or front w 0 + 1)) ≡ sum front + 1

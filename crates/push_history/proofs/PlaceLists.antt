@@ -1,10 +1,10 @@
 -- Lists by their places.
-use Rattle.std.proofs.Common.{◌≡◌, ◌<◌, ℕ, zero, suc, ◌+◌, ◌-◌, ◌*◌, List, [], ◌∷◌, ◌++◌, length, get_or, take, drop, Some, refl, sym, ap, ap₂, ◌∙◌, subst, arith, inl, inr}
+use Rattle.std.proofs.Common.{◌≡◌, ◌<◌, ℕ, zero, suc, ◌+◌, ◌-◌, ◌*◌, ℤ, List, [], ◌∷◌, ◌++◌, length, get_or, take, drop, Some, refl, sym, ap, ap₂, ◌∙◌, subst, arith, inl, inr}
 use Rattle.std.specs.Prelude.{All, map, slice_get}
 use Rattle.std.specs.List.{flat_map, range_with_len, zip}
 use Rattle.std.proofs.lemmas.Bool.{cases_lt}
-use Rattle.std.proofs.lemmas.List.{get_or-take, length-drop, length-take, map-append, take-append-drop}
-use Rattle.std.proofs.lemmas.Option.{get_or_from_slice_get, slice_get-get_or}
+use Rattle.std.proofs.lemmas.List.{get_or-map, get_or-take, length-drop, length-take, map-append, take-append-drop}
+use Rattle.std.proofs.lemmas.Option.{get_or_from_slice_get, slice_get-get_or, slice_get_within}
 
 -- what f makes of each, by its place
 pub map_from : {X Y : Type 0} (f : X → Y) (g : ℕ → Y) (xs : List X) (a n : ℕ) → length xs ≡ n → ((i : ℕ) (d : X) → i < n → f (get_or xs i d) ≡ g (a + i)) → map f xs ≡ map g (range_with_len a n)
@@ -97,3 +97,8 @@ range_split a (suc n) m =
     let there : a + suc n ≡ a + 1 + n = omega arith in
     let all : suc (n + m) ≡ suc n + m = omega arith in
     ap (λ t. a ∷ t) (ap (λ (b : ℕ). range_with_len (a + 1) n ++ range_with_len b m) there ∙ range_split (a + 1) n m) ∙ ap (range_with_len a) all
+
+-- the number at a place of a list that f makes
+pub made_at : {X : Type 0} (f : X → ℤ) (xs : List X) (made : List ℤ) (i : ℕ) (x : X) (z : ℤ) → made ≡ map f xs → slice_get xs i ≡ Some x → slice_get made i ≡ Some z → f x ≡ z
+made_at f xs made i x z all at is =
+    sym (ap f (get_or_from_slice_get xs i x x at)) ∙ sym (get_or-map f xs i x z (slice_get_within xs i x at)) ∙ ap (λ l. get_or l i z) (sym all) ∙ get_or_from_slice_get made i z z is

@@ -1,5 +1,5 @@
-use Rattle.fold_law.proofs.Bracketed.{answer_below, answer_short, are_plain}
-use Rattle.fold_law.proofs.laws.answers_are_bracketed.Goals as goal
+use Rattle.bracket.proofs.Bracketed.{answer_below, answer_short, are_plain}
+use Rattle.bracket.proofs.laws.answers_are_bracketed.Goals as goal
 
 pub returns : goal.returns
 returns c = record {

@@ -11,9 +11,8 @@ use Rattle.std.proofs.lemmas.List.Sums.{sum_by-cons, sum_by-append, sum_by-take-
 use Rattle.hash_rows.specs.declared.shape.Push.{Push}
 use Rattle.hash_rows.specs.declared.shape.Update.{Update}
 use Rattle.hash_rows.specs.Rules.{Rules}
-use Rattle.hash_rows.specs.Sketches.{sum_join}
-use Rattle.count_min.proofs.NeverBelow.{join_amounts}
-use Rattle.hash_rows.specs.Sketches.{sum_gap}
+use Rattle.hash_rows.specs.Sketches.{sum_join, sum_gap}
+use Rattle.hash_rows.proofs.PlainSums.{join_amounts}
 use Rattle.hash_rows.proofs.SumLaws.{count_min_lawful}
 use Rattle.push_history.specs.Share.{zero_key}
 use Rattle.push_history.specs.Front.{upto_of}

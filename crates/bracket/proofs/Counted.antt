@@ -25,9 +25,9 @@ use Rattle.push_history.specs.Shown.{shown_cells}
 use Rattle.push_history.specs.Updates.{update_at}
 use Rattle.push_history.specs.Whole.{whole, whole_of}
 use Rattle.push_history.proofs.Notes.{map_range_same}
-use Rattle.fold_law.specs.Bracket.{IsNear, NoneRefused, updates_of_worker, matching, matching_whole, true_of, true_cells}
-use Rattle.fold_law.proofs.Bracket.{upto_within}
-use Rattle.fold_law.proofs.Bracketed.{ArePlain, answer_below, answer_short}
+use Rattle.bracket.specs.Bracket.{IsNear, NoneRefused, updates_of_worker, matching, matching_whole, true_of, true_cells}
+use Rattle.bracket.proofs.Bracket.{upto_within}
+use Rattle.bracket.proofs.Bracketed.{ArePlain, answer_below, answer_short}
 use Rattle.fold_law.proofs.Sums.{count_min, IsPlain, plain_whole}
 use Rattle.fold_law.proofs.Totals.{sum_range_le}
 

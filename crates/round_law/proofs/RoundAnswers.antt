@@ -15,10 +15,10 @@ use Rattle.push_history.specs.declared.event.Event.TheVariants.{Ask}
 use Rattle.push_history.specs.LagRun.{Terms, State, lag_run}
 use Rattle.push_history.specs.Answers.{AnswerParts, is_ask, answer_in, answers_to}
 use Rattle.push_history.specs.Rounds.{ask_in_round, ask_at_end, with_round, events_of_rounds}
-use Rattle.push_history.specs.RoundStates.{round_state}
-use Rattle.push_history.proofs.RoundSteps.{SameRun, same_then, same_run, ask_run, asks_run, before_asks, ask_in_round_run}
-use Rattle.push_history.proofs.AskLists.{own_ask, quiet_event, quiet_before}
-use Rattle.push_history.proofs.AskParts.{same_answer, answers_more, answers_same, answers_count, other_ask, its_ask}
+use Rattle.round_law.specs.RoundStates.{round_state}
+use Rattle.round_law.proofs.RoundSteps.{SameRun, same_then, same_run, ask_run, asks_run, before_asks, ask_in_round_run}
+use Rattle.round_law.proofs.AskLists.{own_ask, quiet_event, quiet_before}
+use Rattle.round_law.proofs.AskParts.{same_answer, answers_more, answers_same, answers_count, other_ask, its_ask}
 
 module _ (t : Terms) (o : Options) (shape : Shape) (keys : List FlowKey) (q : ℕ) where
   abbrev answers : List Event → List AnswerParts
