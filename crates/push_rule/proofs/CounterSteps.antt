@@ -327,13 +327,3 @@ keeps_fresh stands t w d stood idle threshold worker lane full queue taken = rec
   taken = omega (arith, taken);
   taken_within = omega (arith, taken);
 }
-
--- what joins the told value to the whole one is a value
-pub residue_value : {H : Type 0} (stands : H → ℤ → ℤ → Type 0) (r : Rules) → AreLaws r
-    → ((h : H) (said all : ℤ) → stands h said all → (r.is_value said ≡ true) × (r.is_value all ≡ true) × (r.is_behind said all ≡ true))
-    → (held : List H) (cell : ℕ) → cell < length held → (said all z : ℤ) → StandsAt stands held cell said all → z ≡ r.gap said all → r.is_value z ≡ true
-residue_value {H} stands r laws values [] cell lt said all z at is = absurd (omega arith)
-residue_value {H} stands r laws values (h ∷ held) zero lt said all z at is =
-    let both = values h said all (at h refl) in
-    ap r.is_value is ∙ laws.gap_value said all both.0 both.1
-residue_value {H} stands r laws values (h ∷ held) (suc cell) lt said all z at is = residue_value stands r laws values held cell (omega arith) said all z at is

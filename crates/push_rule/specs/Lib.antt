@@ -1,3 +1,4 @@
+pub mod Bytes
 pub mod Stands
 pub mod Counters
 pub mod Keeps
