@@ -2,15 +2,15 @@
 //! of the whole capture.
 #![tactic(auto)]
 
+mod buckets;
+mod cache;
 mod candidates;
 mod distinct;
-mod firsts;
 mod flow_keys;
 mod heaviest_flows;
 mod heavy;
-mod parts;
 mod ranks;
-mod recent;
+mod top_flows;
 
 pub use heaviest_flows::{HeaviestFlows, heaviest};
 pub use heavy::Heavy;

@@ -81,6 +81,7 @@ module _ {H : Type 0} (back : ℤ → H) (fresh : H) where
         by k d false apart lt =
             let ne : k ≢ cell = (λ e. let same : nat_eq cell k ≡ true = grind arith in let bad : true ≡ false = sym same ∙ apart in absurd (cc)) in
             at_other k apart ∙ sym (get_or-set_other (held_cells back fresh bytes old) cell k h d ne ∙ get_or-held_cells bytes old k d lt)
+
         each : (k : ℕ) (d : H) → k < length (held_cells back fresh (slice_set bytes cell byte) new)
             → get_or (held_cells back fresh (slice_set bytes cell byte) new) k d ≡ get_or (slice_set (held_cells back fresh bytes old) cell h) k d
         each k d lt =

@@ -25,8 +25,8 @@ pub struct Counter<K: Kind> {
 }
 
 impl<K: Kind> Model for Counter<K> {
-    ghost use Rattle.std.specs.Prelude.{◌≡◌, ◌≤◌, None, length, vec_capacity, ◌&&◌, ◌||◌, nat_le, nat_lt, false, if◌then◌else◌, max, slice_index_or};
-    ghost use Rattle.push_rule.specs.Counters.{CounterView, KeepsSettings, Extends, in_lane, is_wait};
+    ghost use Rattle.std.specs.Prelude.{◌≡◌, ◌≤◌, None, length, vec_capacity};
+    ghost use Rattle.push_rule.specs.Counters.{CounterView};
 
     ghost Value = { CounterView K.Held };
 
@@ -36,7 +36,9 @@ impl<K: Kind> Model for Counter<K> {
 }
 
 impl<K: Kind> Counter<K> {
+    ghost use Rattle.std.specs.Prelude.{None, ◌&&◌, ◌||◌, nat_le, nat_lt, false, if◌then◌else◌, max, slice_index_or};
     ghost use Rattle.push_history.specs.Pushes.{distance_at, is_refused};
+    ghost use Rattle.push_rule.specs.Counters.{KeepsSettings, Extends, in_lane, is_wait};
     ghost use Rattle.push_history.specs.Rounds.{is_waits};
     ghost use Rattle.push_rule.specs.Keeps.{Keeps};
 

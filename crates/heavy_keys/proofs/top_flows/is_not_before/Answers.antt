@@ -2,7 +2,7 @@ use Rattle.std.proofs.Common.{◌≡◌, ◌⊎◌, false, inl, inr, ap, sym, �
 use Rattle.std.specs.Ordering.{is_lt}
 use Rattle.std.specs.declared.cmp.Ordering.{Ordering}
 use Rattle.std.specs.declared.cmp.Ordering.TheVariants.{Equal, Greater}
-use Rattle.heavy_keys.proofs.firsts.is_not_before.Goals as goal
+use Rattle.heavy_keys.proofs.top_flows.is_not_before.Goals as goal
 
 not_less : (o : Ordering) → (o ≡ Equal) ⊎ (o ≡ Greater) → is_lt o ≡ false
 not_less o (inl e) = ap is_lt e

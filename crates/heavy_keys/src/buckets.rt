@@ -1,41 +1,41 @@
 ghost use Rattle.std.specs.Prelude.{◌≡◌, ◌++◌, ◌∷◌, [], List, vec_len, IfOk, OnOk};
 ghost use Rattle.heavy_keys.specs.declared.candidates.Candidate.{Candidate};
-ghost use Rattle.heavy_keys.specs.Parts.{AreParts};
+ghost use Rattle.heavy_keys.specs.Buckets.{AreBuckets};
 
 use crate::candidates::Candidate;
 use flow_base::NoMemory;
 use std::alloc::Global;
 
 // How many lists there are: one for each value of the top five bits.
-const PARTS: usize = 32;
+const BUCKETS: usize = 32;
 
-/// Candidates in lists by the top bits of their spreads. The same key has the same spread, so that
+/// Candidates in lists by the top bits of their fingerprints. The same key has the same fingerprint, so that
 /// each list can be counted by itself, with bits that fit the cache.
 #[derive(Drop)]
-pub struct Parts {
+pub struct Buckets {
     pub lists: Vec<Vec<Candidate>>,
     ghost count: { vec_len lists ≡ 32 },
 }
 
-impl Parts {
+impl Buckets {
     /// Lists without candidates.
-    pub fn new(alloc: Global) -> Result<Parts, NoMemory>
-        ensures { IfOk result (λ parts. AreParts [] parts.lists.items) }
+    pub fn new(alloc: Global) -> Result<Buckets, NoMemory>
+        ensures { IfOk result (λ buckets. AreBuckets [] buckets.lists.items) }
     {
         let mut lists = Vec::new(alloc);
-        for _ in 0..PARTS {
+        for _ in 0..BUCKETS {
             push(&mut lists, Vec::new(alloc))?;
         }
-        Ok(Parts { lists })
+        Ok(Buckets { lists })
     }
 
-    /// Adds the candidate to the list of its spread.
+    /// Adds the candidate to the list of its fingerprint.
     #[inline(always)]
     pub fn add(&mut self, candidate: Candidate) -> Result<(), NoMemory>
-        ensures { OnOk result ((candidates : List Candidate) → AreParts candidates self.old.lists.items → AreParts (candidates ++ candidate ∷ []) self.new.lists.items) }
+        ensures { OnOk result ((candidates : List Candidate) → AreBuckets candidates self.old.lists.items → AreBuckets (candidates ++ candidate ∷ []) self.new.lists.items) }
     {
         push(
-            &mut self.lists[(candidate.spread >> 27) as usize],
+            &mut self.lists[(candidate.fingerprint >> 27) as usize],
             candidate,
         )
     }
