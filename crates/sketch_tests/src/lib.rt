@@ -1,4 +1,4 @@
-//! Known values of hashes, of the three sketches, and of heavy keys.
+//! Known values of hashes, of the three sketches, of private sketches and of heavy keys.
 #![tactic(auto)]
 
 #[cfg(test)]
@@ -11,3 +11,7 @@ mod heavy_flows;
 mod kinds;
 #[cfg(test)]
 mod live_table;
+#[cfg(test)]
+mod one_worker;
+#[cfg(test)]
+mod private_cells;

@@ -1,5 +1,0 @@
-use Rattle.std.proofs.Common.{◌≡◌, length}
-use Rattle.lag_rows.proofs.tests.expect_replies.Given as goal
-
-abbrev pub invariant-loop-event : goal.invariant-loop-event
-invariant-loop-event g l = (l.lag.limits ≡ l.fn.lag.limits) × (length l.lag.seen ≡ length l.fn.lag.seen) × (l.lag.shape ≡ l.fn.lag.shape)

@@ -1,5 +1,0 @@
-//! Worked rows of the pure core.
-#![tactic(auto)]
-
-#[cfg(test)]
-mod tests;
