@@ -36,8 +36,8 @@ more_one lists now place more m within is =
 -- what fits of one message more
 kept_more : (p : Push → Bool) (before : List Push) (more : List Push) (m : Push) (b : Bool) → p m ≡ b
     → cond b ((before ++ filter p more) ++ m ∷ []) (before ++ filter p more) ≡ before ++ filter p (more ++ m ∷ [])
-kept_more p before more m true yes = append_assoc before (filter p more) (m ∷ []) ∙ ap (λ (l : List Push). before ++ l) (sym (filter_push_yes p more m yes))
-kept_more p before more m false no = ap (λ (l : List Push). before ++ l) (sym (filter_push_no p more m no))
+kept_more p before more m true passes = append_assoc before (filter p more) (m ∷ []) ∙ ap (λ (l : List Push). before ++ l) (sym (filter_push_yes p more m passes))
+kept_more p before more m false fails = ap (λ (l : List Push). before ++ l) (sym (filter_push_no p more m fails))
 
 pub lane_none : (r : Rules) (place : ℕ) (a : AggregatorView) → HasSweptLane r place [] a a
 lane_none r place a = record { took = more_none (takens a.outs) place; kept = sym (append-nil (kept_by a)) }
@@ -85,12 +85,16 @@ module _ (most : ℕ) (mores : List (List Push)) (more : List Push) (old mid new
       ∙ get_or-set_other (takens mid) place w (taken_at (takens mid) place ++ more) [] not
       ∙ h.each w ∙ ap (λ (l : List Push). taken_at (takens old) w ++ l) (sym same)
 
+  its_more : taken_at next place ≡ more
+  unfolding next
+  its_more = get_or_push mores more [] place len
+
   each_lane : (w : ℕ) → (taken_at (takens new) w ≡ taken_at (takens old) w ++ taken_at next w) × (length (taken_at next w) ≤ most)
   each_lane w = elim (cases_lt w place) [
     | inl early ↦ (
         let same = before w early in
         (other_lane w (omega (arith, early)) same, subst (λ (l : List Push). length l ≤ most) (sym same) (h.few w)))
-    | inr late ↦ elim (cases_lt place w) [
+    | inr late ↦ (elim (cases_lt place w) [
       | inl behind ↦ (
           let same = past w behind in
           (other_lane w (omega (arith, behind)) same, subst (λ (l : List Push). length l ≤ most) (sym same) (h.few w)))
@@ -99,12 +103,8 @@ module _ (most : ℕ) (mores : List (List Push)) (more : List Push) (old mid new
           let its : taken_at next place ≡ more = its_more in
           subst (λ (n : ℕ). (taken_at (takens new) n ≡ taken_at (takens old) n ++ taken_at next n) × (length (taken_at next n) ≤ most)) is
           (same_lane, subst (λ (l : List Push). length l ≤ most) (sym its) few))
-    ]
+    ])
   ]
-    where
-      its_more : taken_at next place ≡ more
-      unfolding next
-      its_more = get_or_push mores more [] place len
 
   pub taken_next : HaveTaken most (mores ++ more ∷ []) old new
   unfolding next

@@ -254,9 +254,10 @@ fn drop_lane<R: Wait>(rt: &R, outs: &mut OutPasses, lanes: &[Lane], place: u32, 
         × (length more ≤ batch) × (result ≡ length more) }
 {
     for count in 0..batch {
-        if take_at(rt, outs, lanes, place).is_none() {
+        let Some(message) = take_at(rt, outs, lanes, place) else {
             return count;
-        }
+        };
+        let _dropped = message;
     }
     batch
 }
