@@ -1,6 +1,6 @@
 -- The side table: an entry by its place, and one that is written there.
-use Rattle.std.proofs.Common.{◌≡◌, ◌<◌, ◌≤◌, ℕ, ◌+◌, List, [], ◌∷◌, ◌++◌, ◌||◌, length, get_or, Bool, true, false, true≢false, is_some, Option, Some, None, if◌then◌else◌, refl, sym, ap, ◌∙◌, subst, arith, position, inl, inr}
-use Rattle.std.specs.Prelude.{slice_get, nat_eq, map, option_map}
+use Rattle.std.proofs.Common.{◌≡◌, ◌<◌, ◌≤◌, ℕ, ◌+◌, List, [], ◌∷◌, ◌++◌, ◌||◌, length, get_or, Bool, true, false, is_some, Option, Some, None, if◌then◌else◌, refl, sym, ap, ◌∙◌, subst, arith, position, inl, inr}
+use Rattle.std.specs.Prelude.{slice_get, nat_eq, option_map}
 use Rattle.std.specs.Cmp.{nat_eq_equiv}
 use Rattle.std.specs.List.{IsDistinct, list_any}
 use Rattle.std.specs.Map.{keys_of}
@@ -23,11 +23,11 @@ entry_at {H} es cell place is =
     let found = position-Some (nat_eq cell) (keys_of es) place 0 is in
     elim (slice_get_cases es place).1 [
       | inl here ↦
-        let at : slice_get (keys_of es) place ≡ Some here.0.0 = slice_get-map (λ (e : ℕ × H). e.0) es place ∙ ap (λ (o : Option (ℕ × H)). option_map (λ (e : ℕ × H). e.0) o) here.2 in
-        let key : get_or (keys_of es) place 0 ≡ here.0.0 = get_or_from_slice_get (keys_of es) place here.0.0 0 at in
-        let test : nat_eq cell here.0.0 ≡ true = subst (λ (n : ℕ). nat_eq cell n ≡ true) key found.1 in
-        let same : here.0.0 ≡ cell = grind arith in
-        (here.0.1, here.2 ∙ ap (λ (n : ℕ). Some (n, here.0.1)) same)
+          let at : slice_get (keys_of es) place ≡ Some here.0.0 = slice_get-map (λ (e : ℕ × H). e.0) es place ∙ ap (λ (o : Option (ℕ × H)). option_map (λ (e : ℕ × H). e.0) o) here.2 in
+          let key : get_or (keys_of es) place 0 ≡ here.0.0 = get_or_from_slice_get (keys_of es) place here.0.0 0 at in
+          let test : nat_eq cell here.0.0 ≡ true = subst (λ (n : ℕ). nat_eq cell n ≡ true) key found.1 in
+          let same : here.0.0 ≡ cell = grind arith in
+          (here.0.1, here.2 ∙ ap (λ (n : ℕ). Some (n, here.0.1)) same)
       | inr past ↦ absurd (omega (arith, found.0, past.0, length-keys_of es))
     ]
 
@@ -52,8 +52,11 @@ written {H} {S} old new cell place held before unique at is =
 module _ {H S : Type 0} (cells room : ℕ) (side : IndexMap ℕ H S) (is : IsSide cells room side) where
   -- no more entries than cells
   pub few_entries : length side.entries ≤ cells
-  few_entries = omega (arith, length-keys_of side.entries,
-    length-le_from_distinct_below (keys side) cells is.unique (λ q there. is.within q (is_some-lookup (nat_eq q) side.entries ∙ there)))
+  few_entries = omega (
+    arith,
+    length-keys_of side.entries,
+    length-le_from_distinct_below (keys side) cells is.unique (λ q there. is.within q (is_some-lookup (nat_eq q) side.entries ∙ there)),
+  )
 
   -- a cell that has no entry finds room for one
   pub has_room : (cell : ℕ) → cell < cells → length side.entries < room → get nat_eq side cell ≡ None → 0 < spare side

@@ -110,10 +110,10 @@ fresh_held {H} back fresh cells entries is_back =
     let zeros : List ℤ = replicate cells (pos 0) in
     let len : length (held_cells back fresh zeros entries) ≡ cells = length-held_cells back fresh zeros entries ∙ length-replicate cells (pos 0) in
     same_lists (held_cells back fresh zeros entries) (replicate cells fresh) (len ∙ sym (length-replicate cells fresh)) (λ k d lt.
-      let inside : k < cells = omega (arith, lt, len) in
-      get_or-held_cells back fresh zeros entries k d (omega (arith, inside, length-replicate cells (pos 0)))
-      ∙ ap (λ (b : ℤ). held_at back fresh b (lookup (nat_eq k) entries)) (get_or-replicate cells k (pos 0) (pos 0) inside)
-      ∙ is_back ∙ sym (get_or-replicate cells k fresh d inside))
+    let inside : k < cells = omega (arith, lt, len) in
+    get_or-held_cells back fresh zeros entries k d (omega (arith, inside, length-replicate cells (pos 0)))
+    ∙ ap (λ (b : ℤ). held_at back fresh b (lookup (nat_eq k) entries)) (get_or-replicate cells k (pos 0) (pos 0) inside)
+    ∙ is_back ∙ sym (get_or-replicate cells k fresh d inside))
 
 -- each byte is the small form of what is held
 pub bytes_are : {H : Type 0} (stands : H → ℤ → ℤ → Type 0) (small : H → Option ℤ) (back : ℤ → H) (fresh : H) (bytes : List ℤ) (entries : List (ℕ × H))
@@ -122,10 +122,10 @@ bytes_are {H} stands small back fresh bytes entries kept =
     let held : List H = held_cells back fresh bytes entries in
     let len : length (map (λ h. byte_of (small h)) held) ≡ length bytes = length-map held (λ h. byte_of (small h)) ∙ length-held_cells back fresh bytes entries in
     same_lists bytes (map (λ h. byte_of (small h)) held) (sym len) (λ k d lt.
-      let inside : k < length held = omega (arith, lt, length-held_cells back fresh bytes entries) in
-      let at : slice_get (map (λ h. byte_of (small h)) held) k ≡ Some (byte_of (small (held_at back fresh (get_or bytes k (pos 0)) (lookup (nat_eq k) entries)))) =
-      slice_get-map (λ h. byte_of (small h)) held k ∙ ap (λ (o : Option H). option_map (λ h. byte_of (small h)) o) (slice_get-held_cells back fresh bytes entries k lt) in
-      get_or_default bytes k d (pos 0) lt ∙ (kept k lt).byte_is ∙ sym (get_or_from_slice_get (map (λ h. byte_of (small h)) held) k _ d at))
+    let inside : k < length held = omega (arith, lt, length-held_cells back fresh bytes entries) in
+    let at : slice_get (map (λ h. byte_of (small h)) held) k ≡ Some (byte_of (small (held_at back fresh (get_or bytes k (pos 0)) (lookup (nat_eq k) entries)))) =
+    slice_get-map (λ h. byte_of (small h)) held k ∙ ap (λ (o : Option H). option_map (λ h. byte_of (small h)) o) (slice_get-held_cells back fresh bytes entries k lt) in
+    get_or_default bytes k d (pos 0) lt ∙ (kept k lt).byte_is ∙ sym (get_or_from_slice_get (map (λ h. byte_of (small h)) held) k _ d at))
 
 -- the wide bytes are those of the held values without a small form
 pub wide_are : {H : Type 0} (stands : H → ℤ → ℤ → Type 0) (small : H → Option ℤ) (back : ℤ → H) (fresh : H) → AreSmall stands small back
@@ -135,16 +135,19 @@ wide_are {H} stands small back fresh laws bytes entries kept =
     let held : List H = held_cells back fresh bytes entries in
     ap (λ (bs : List ℤ). count_by is_wide bs) (bytes_are stands small back fresh bytes entries kept)
     ∙ counts held (λ k d lt.
-      let inside : k < length bytes = omega (arith, lt, length-held_cells back fresh bytes entries) in
-      subst (λ (h : H). Agrees h) (sym (get_or-held_cells back fresh bytes entries k d inside)) (all k inside))
+    let inside : k < length bytes = omega (arith, lt, length-held_cells back fresh bytes entries) in
+    subst (λ (h : H). Agrees h) (sym (get_or-held_cells back fresh bytes entries k d inside)) (all k inside))
   where
     Agrees : H → Type 0
     Agrees h = is_wide (byte_of (small h)) ≡ is_none (small h)
+
     by : (h : H) (told whole : ℤ) → stands h told whole → (o : Option ℤ) → small h ≡ o → is_wide (byte_of o) ≡ is_none o
     by h told whole stood None is = refl
     by h told whole stood (Some b) is = laws.not_wide h told whole b stood is
+
     all : (k : ℕ) → k < length bytes → Agrees (held_at back fresh (get_or bytes k (pos 0)) (lookup (nat_eq k) entries))
     all k lt = let it = kept k lt in by _ it.told it.whole it.stood _ refl
+
     counts : (hs : List H) → ((k : ℕ) (d : H) → k < length hs → Agrees (get_or hs k d)) → count_by is_wide (map (λ h. byte_of (small h)) hs) ≡ count_by (λ h. is_none (small h)) hs
     counts [] agree = refl
     counts (h ∷ hs) agree =
@@ -218,11 +221,12 @@ pub forgotten : {H S : Type 0} (stands : H → ℤ → ℤ → Type 0) (small : 
     × (held_cells back fresh (slice_set bytes cell (pos 0)) side.entries ≡ slice_set (held_cells back fresh bytes side.entries) cell fresh)
 forgotten {H} {S} stands small back fresh laws bytes room cell side stood is_small within was =
     let byte : byte_of (small fresh) ≡ pos 0 = ap byte_of is_small in
-    let never : small fresh ≡ None → get nat_eq side cell ≡ Some fresh = λ none. absurd (none-some (pos 0) (sym none ∙ is_small)) in
-    (subst (λ (b : ℤ). AreSound stands small back fresh (slice_set bytes cell b) None room side) byte
-      (set_sound stands small back fresh laws bytes room cell fresh (pos 0) (pos 0) stood within None side side was (λ d is. absurd (none-some d is)) never (λ key apart. refl) was.side_is.unique (omega arith)),
+    let never : small fresh ≡ None → get nat_eq side cell ≡ Some fresh = λ none. absurd (none-some (pos 0) (sym none ∙ is_small)) in (
+      subst (λ (b : ℤ). AreSound stands small back fresh (slice_set bytes cell b) None room side) byte
+          (set_sound stands small back fresh laws bytes room cell fresh (pos 0) (pos 0) stood within None side side was (λ d is. absurd (none-some d is)) never (λ key apart. refl) was.side_is.unique (omega arith)),
       subst (λ (b : ℤ). held_cells back fresh (slice_set bytes cell b) side.entries ≡ slice_set (held_cells back fresh bytes side.entries) cell fresh) byte
-      (set_held stands small back fresh laws bytes room cell fresh (pos 0) (pos 0) stood within None side side was (λ d is. absurd (none-some d is)) never (λ key apart. refl) was.side_is.unique (omega arith)))
+          (set_held stands small back fresh laws bytes room cell fresh (pos 0) (pos 0) stood within None side side was (λ d is. absurd (none-some d is)) never (λ key apart. refl) was.side_is.unique (omega arith)),
+    )
 
 map_replicated : {A B : Type 0} (f : A → B) (n : ℕ) (x : A) → map f (replicate n x) ≡ replicate n (f x)
 map_replicated f zero x = refl

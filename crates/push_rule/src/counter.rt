@@ -5,10 +5,10 @@ ghost use Rattle.push_history.specs.OwnSteps.{with_taken};
 ghost use Rattle.push_history.specs.Residue.{residue};
 ghost use Rattle.push_history.specs.Updates.{update_at};
 
+use crate::Private;
 use flow_base::NoMemory;
 use hash_rows::{Bits, Full, Kind, Push, Update};
 use push_history::Reply;
-use crate::Private;
 use std::alloc::Global;
 use std::marker::Model;
 

@@ -93,13 +93,7 @@ impl<K: Kind> HeldCells<K> {
         ensures used { self.new.used ≤ self.old.used + 1 }
         ensures room { self.new.room ≡ self.old.room }
     {
-        keep(
-            &mut self.bytes,
-            &mut self.side,
-            cell,
-            K::small(held),
-            held,
-        );
+        keep(&mut self.bytes, &mut self.side, cell, K::small(held), held);
     }
 
     /// Puts the held value at the cell, which is due from now on.

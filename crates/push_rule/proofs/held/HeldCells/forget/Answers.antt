@@ -1,4 +1,4 @@
-use Rattle.std.proofs.Common.{◌≡◌, ◌<◌, ◌∙◌, ap, sym, subst, length, List, ℤ, pos, Option, Some, None, arith}
+use Rattle.std.proofs.Common.{◌≡◌, ◌∙◌, ap, sym, subst, List, ℤ, pos, Option, Some, None}
 use Rattle.std.specs.Prelude.{slice_set}
 use Rattle.push_rule.specs.declared.held.Due.{Due}
 use Rattle.push_rule.specs.Bytes.{HeldView, with_due, held_cells, AreSound}
@@ -21,9 +21,11 @@ invariant_of-self g c =
     let none : c.self.inside.due ≡ None = none_due c.self.inside.due (ap (λ (p : HeldView g.row.K-Held.Denot). p.due) c.self.view_is ∙ c.requires.idle) in
     let was = subst (λ (d : Option (Due H)). AreSound g.K.Kind.stands g.K.Kind.small_of g.K.Kind.held_of_small g.K.Kind.fresh_held c.self.inside.bytes.items d c.self.inside.room c.self.inside.side.entries) none c.self.invariant.0 in
     let sound = (forgotten g.K.Kind.stands g.K.Kind.small_of g.K.Kind.held_of_small g.K.Kind.fresh_held laws c.self.inside.bytes.items c.self.inside.room c.args.cell c.self.inside.side.entries kind.fresh_stands is_small (within_bytes g.K.Kind.held_of_small g.K.Kind.fresh_held c.self.inside.bytes.items (with_due c.self.inside.due c.self.inside.side.entries.entries) c.args.self.now.held c.args.cell
-    (ap (λ (p : HeldView g.row.K-Held.Denot). p.held) c.self.view_is) c.requires.cell) was).0 in
-    (subst (λ (d : Option (Due H)). AreSound g.K.Kind.stands g.K.Kind.small_of g.K.Kind.held_of_small g.K.Kind.fresh_held c.set.new.self.items d c.self.inside.room c.self.inside.side.entries) (sym none)
-    (subst (λ (bs : List ℤ). AreSound g.K.Kind.stands g.K.Kind.small_of g.K.Kind.held_of_small g.K.Kind.fresh_held bs None c.self.inside.room c.self.inside.side.entries) (sym c.set.ensures.items) sound), c.self.invariant.1)
+    (ap (λ (p : HeldView g.row.K-Held.Denot). p.held) c.self.view_is) c.requires.cell) was).0 in (
+      subst (λ (d : Option (Due H)). AreSound g.K.Kind.stands g.K.Kind.small_of g.K.Kind.held_of_small g.K.Kind.fresh_held c.set.new.self.items d c.self.inside.room c.self.inside.side.entries) (sym none)
+          (subst (λ (bs : List ℤ). AreSound g.K.Kind.stands g.K.Kind.small_of g.K.Kind.held_of_small g.K.Kind.fresh_held bs None c.self.inside.room c.self.inside.side.entries) (sym c.set.ensures.items) sound),
+      c.self.invariant.1,
+    )
 
 pub returns-clause-held : goal.returns-clause-held
 returns-clause-held g c =

@@ -21,9 +21,11 @@ invariant_of-self g c =
     let cells : length c.self.inside.bytes.items ≡ n = ap (λ (bs : List ℤ). length bs) bytes ∙ length-replicate n (pos 0) in
     let spares : min n c.self.inside.room ≤ spare c.clear.new.self.entries =
     omega (arith, c.clear.ensures.room, c.self.invariant.0.side_is.spare, ap (λ (m : ℕ). min m c.self.inside.room) cells) in
-    let sound = fresh_sound g.K.Kind.stands g.K.Kind.small_of g.K.Kind.held_of_small g.K.Kind.fresh_held n c.self.inside.room c.clear.new.self.entries kind.fresh_stands is_small is_back c.clear.ensures.none spares in
-    (subst (λ (d : Option (Due H)). AreSound g.K.Kind.stands g.K.Kind.small_of g.K.Kind.held_of_small g.K.Kind.fresh_held c.self.inside.bytes.items d c.self.inside.room c.clear.new.self.entries) (sym none)
-    (subst (λ (bs : List ℤ). AreSound g.K.Kind.stands g.K.Kind.small_of g.K.Kind.held_of_small g.K.Kind.fresh_held bs None c.self.inside.room c.clear.new.self.entries) (sym bytes) sound), ap (λ l. length l.items) c.clear.ensures.places ∙ c.self.invariant.1)
+    let sound = fresh_sound g.K.Kind.stands g.K.Kind.small_of g.K.Kind.held_of_small g.K.Kind.fresh_held n c.self.inside.room c.clear.new.self.entries kind.fresh_stands is_small is_back c.clear.ensures.none spares in (
+      subst (λ (d : Option (Due H)). AreSound g.K.Kind.stands g.K.Kind.small_of g.K.Kind.held_of_small g.K.Kind.fresh_held c.self.inside.bytes.items d c.self.inside.room c.clear.new.self.entries) (sym none)
+          (subst (λ (bs : List ℤ). AreSound g.K.Kind.stands g.K.Kind.small_of g.K.Kind.held_of_small g.K.Kind.fresh_held bs None c.self.inside.room c.clear.new.self.entries) (sym bytes) sound),
+      ap (λ l. length l.items) c.clear.ensures.places ∙ c.self.invariant.1,
+    )
 
 pub returns-clause-held : goal.returns-clause-held
 returns-clause-held g c =

@@ -1,6 +1,6 @@
-use Rattle.std.proofs.Common.{◌≡◌, ◌<◌, ◌∙◌, ap, sym, subst, length, List, ◌∷◌, ℕ, ℤ, Option, Some, None, arith}
-use Rattle.std.specs.Prelude.{slice_set, option_map}
-use Rattle.std.proofs.lemmas.Option.{same_Some, none-some}
+use Rattle.std.proofs.Common.{◌≡◌, ◌<◌, ◌∙◌, ap, sym, subst, length, List, ℤ, Option, None, arith}
+use Rattle.std.specs.Prelude.{slice_set}
+use Rattle.std.proofs.lemmas.Option.{none-some}
 use Rattle.push_rule.specs.declared.held.Due.{Due}
 use Rattle.push_rule.specs.Bytes.{HeldView, byte_of, with_due, held_cells, AreSound}
 use Rattle.push_rule.proofs.HeldLemmas.{AreSmall, are_small, within_bytes}
@@ -33,9 +33,11 @@ invariant_of-self g c =
     c.keep.ensures.bytes ∙ ap (λ (o : Option ℤ). slice_set c.self.inside.bytes.items c.args.cell (byte_of o)) c.small.ensures in
     let sound = set_sound g.K.Kind.stands g.K.Kind.small_of g.K.Kind.held_of_small g.K.Kind.fresh_held laws c.self.inside.bytes.items c.self.inside.room c.args.cell c.args.held
     c.requires.stands.0 c.requires.stands.1 c.requires.stands.2 within c.self.inside.due c.self.inside.side.entries c.keep.new.side.entries c.self.invariant.0
-    (λ d is. absurd (none-some d (sym none ∙ is))) (λ small. c.keep.ensures.entry (c.small.ensures ∙ small)) c.keep.ensures.others c.keep.ensures.unique c.keep.ensures.room in
-    (subst (λ (d : Option (Due g.row.K-Held.Denot)). AreSound g.K.Kind.stands g.K.Kind.small_of g.K.Kind.held_of_small g.K.Kind.fresh_held c.keep.new.bytes.items d c.self.inside.room c.keep.new.side.entries) (sym none)
-    (subst (λ (bs : List ℤ). AreSound g.K.Kind.stands g.K.Kind.small_of g.K.Kind.held_of_small g.K.Kind.fresh_held bs None c.self.inside.room c.keep.new.side.entries) (sym byte_is) sound), c.keep.ensures.places)
+    (λ d is. absurd (none-some d (sym none ∙ is))) (λ small. c.keep.ensures.entry (c.small.ensures ∙ small)) c.keep.ensures.others c.keep.ensures.unique c.keep.ensures.room in (
+      subst (λ (d : Option (Due g.row.K-Held.Denot)). AreSound g.K.Kind.stands g.K.Kind.small_of g.K.Kind.held_of_small g.K.Kind.fresh_held c.keep.new.bytes.items d c.self.inside.room c.keep.new.side.entries) (sym none)
+          (subst (λ (bs : List ℤ). AreSound g.K.Kind.stands g.K.Kind.small_of g.K.Kind.held_of_small g.K.Kind.fresh_held bs None c.self.inside.room c.keep.new.side.entries) (sym byte_is) sound),
+      c.keep.ensures.places,
+    )
 
 pub returns-clause-held : goal.returns-clause-held
 returns-clause-held g c =
