@@ -1,5 +1,5 @@
 -- A worker takes up one update more.
-use Rattle.std.proofs.Common.{zero, suc, ◌≡◌, ◌<◌, ◌≤◌, ℕ, ℤ, ◌+◌, ◌-◌, ◌==◌, List, [], ◌∷◌, ◌++◌, length, take, drop, length-append, length-take, length-drop, Bool, true, false, nat_lt, refl, sym, ap, ◌∙◌, subst, arith, append_assoc, All}
+use Rattle.std.proofs.Common.{◌≡◌, ◌<◌, ◌≤◌, ℕ, ℤ, ◌+◌, ◌-◌, ◌==◌, List, [], ◌∷◌, ◌++◌, length, take, drop, length-append, length-take, length-drop, Bool, true, false, nat_lt, refl, sym, ap, ◌∙◌, subst, arith, append_assoc, All}
 use Rattle.std.specs.Prelude.{◌&&◌, nat_le, Option, Some, None, MatchOption}
 use Rattle.std.proofs.lemmas.List.{take_more, length_push, take-append-drop, take-append-le, take-take}
 use Rattle.std.proofs.Math.Seq.{take-length}
@@ -8,7 +8,7 @@ use Rattle.hash_rows.specs.declared.options.Full.{Full}
 use Rattle.hash_rows.specs.declared.options.Full.TheVariants.{Leave, Wait}
 use Rattle.hash_rows.specs.declared.shape.Update.{Update}
 use Rattle.hash_rows.specs.declared.shape.Push.{Push}
-use Rattle.hash_rows.specs.Rules.{Rules, AreLaws}
+use Rattle.hash_rows.specs.Rules.{Rules}
 use Rattle.push_history.specs.declared.event.Reply.TheVariants.{Counted, Pushed, Refused, Waits}
 use Rattle.push_history.specs.LagRun.{Terms, Worker, fresh_worker, updates_by, count_step, message_of, meets_full, pushes}
 use Rattle.push_history.specs.Pushes.{ArePushes, distance_at}

@@ -1,17 +1,13 @@
 -- What is held of cells, as one of them changes.
-use Rattle.std.proofs.Common.{◌≡◌, ◌≢◌, ◌<◌, ◌≤◌, ℕ, zero, suc, ◌+◌, ◌-◌, ◌==◌, ℤ, pos, negsuc, List, [], ◌∷◌, ◌++◌, length, get_or, Bool, true, false, Option, Some, None, MatchOption, if◌then◌else◌, refl, sym, ap, ◌∙◌, subst, arith, true≢false}
-use Rattle.std.specs.Prelude.{slice_get, slice_set, replicate, map, nat_eq, unwrap_or, IsSome, min, ◌≤ℤ◌}
-use Rattle.std.specs.List.{range_with_len, IsDistinct, list_any}
-use Rattle.std.specs.Map.{lookup, keys_of}
-use Rattle.std.specs.Ordering.{int_eq}
-use Rattle.std.proofs.lemmas.List.{get_or-set_same, get_or-set_other, length-set, length-replicate, get_or-replicate, same_lists, length-map, get_or-map, set-get_or}
+use Rattle.std.proofs.Common.{◌≡◌, ◌≢◌, ◌<◌, ℕ, ℤ, pos, negsuc, List, length, get_or, Bool, true, false, Option, Some, None, if◌then◌else◌, refl, sym, ap, ◌∙◌, subst, arith, true≢false}
+use Rattle.std.specs.Prelude.{slice_get, slice_set, nat_eq, unwrap_or, ◌≤ℤ◌}
+use Rattle.std.specs.Map.{lookup}
+use Rattle.std.proofs.lemmas.List.{get_or-set_same, get_or-set_other, length-set, same_lists, set-get_or}
 use Rattle.std.proofs.lemmas.List.FromFn.{get_or-map-range_with_len, length-map-range_with_len}
-use Rattle.std.proofs.lemmas.Option.{slice_get-get_or, slice_get_within, get_or_from_slice_get}
+use Rattle.std.proofs.lemmas.Option.{slice_get-get_or, get_or_from_slice_get}
 use Rattle.std.proofs.lemmas.Int.{ints}
 use Rattle.hash_rows.specs.Rules.{Rules, AreLaws}
-use Rattle.indexmap.specs.IndexMap.{IndexMap, get, spare, IsUnique}
-use Rattle.push_rule.specs.declared.held.Due.{Due}
-use Rattle.push_rule.specs.Bytes.{byte_of, is_wide, held_at, with_due, held_cells, IsKept, AreKept, IsSide, AreSound}
+use Rattle.push_rule.specs.Bytes.{byte_of, is_wide, held_at, held_cells, IsKept, AreKept}
 
 -- what a kind says of small forms
 pub record AreSmall {H : Type 0} (stands : H → ℤ → ℤ → Type 0) (small : H → Option ℤ) (back : ℤ → H) : Type 0 where

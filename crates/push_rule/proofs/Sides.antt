@@ -1,6 +1,6 @@
 -- The side table: an entry by its place, and one that is written there.
-use Rattle.std.proofs.Common.{◌≡◌, ◌<◌, ◌≤◌, ℕ, ◌+◌, List, [], ◌∷◌, ◌++◌, ◌||◌, length, get_or, Bool, true, false, true≢false, is_some, Option, Some, None, if◌then◌else◌, refl, sym, ap, ◌∙◌, subst, arith, position, inl, inr}
-use Rattle.std.specs.Prelude.{slice_get, nat_eq, map, option_map}
+use Rattle.std.proofs.Common.{◌≡◌, ◌<◌, ◌≤◌, ℕ, ◌+◌, List, [], ◌∷◌, ◌++◌, ◌||◌, length, get_or, Bool, true, false, is_some, Option, Some, None, if◌then◌else◌, refl, sym, ap, ◌∙◌, subst, arith, position, inl, inr}
+use Rattle.std.specs.Prelude.{slice_get, nat_eq, option_map}
 use Rattle.std.specs.Cmp.{nat_eq_equiv}
 use Rattle.std.specs.List.{IsDistinct, list_any}
 use Rattle.std.specs.Map.{keys_of}

@@ -1,4 +1,4 @@
-use Rattle.std.proofs.Common.{◌≡◌, ◌∙◌, ap, map}
+use Rattle.std.proofs.Common.{◌∙◌, ap, map}
 use Rattle.push_rule.specs.Bytes.{HeldView, byte_of, with_due}
 use Rattle.push_rule.proofs.Sound.{bytes_are}
 use Rattle.push_rule.proofs.held.HeldCells.bytes.Goals as goal

@@ -1,11 +1,11 @@
-use Rattle.std.proofs.Common.{◌≡◌, ◌<◌, ◌∙◌, ap, sym, subst, length, List, ◌∷◌, ℕ, ℤ, Option, Some, None, arith}
+use Rattle.std.proofs.Common.{◌≡◌, ◌<◌, ◌∙◌, ap, sym, subst, length, List, ℕ, ℤ, Option, None, arith}
 use Rattle.std.specs.Prelude.{slice_set, option_map}
-use Rattle.std.proofs.lemmas.Option.{same_Some, none-some}
+use Rattle.std.proofs.lemmas.Option.{same_Some}
 use Rattle.push_rule.specs.declared.held.Due.{Due}
-use Rattle.push_rule.specs.Bytes.{HeldView, byte_of, with_due, held_cells, AreSound}
-use Rattle.push_rule.proofs.HeldLemmas.{AreSmall, are_small, length-held_cells}
+use Rattle.push_rule.specs.Bytes.{HeldView, byte_of, held_cells, AreSound}
+use Rattle.push_rule.proofs.HeldLemmas.{AreSmall, are_small}
 use Rattle.push_rule.proofs.Sides.{has_room}
-use Rattle.push_rule.proofs.Sound.{none_due, set_held, set_sound}
+use Rattle.push_rule.proofs.Sound.{set_held, set_sound}
 use Rattle.push_rule.proofs.held.HeldCells.close.Goals as goal
 
 pub keep-requires-clause-room : goal.keep-requires-clause-room

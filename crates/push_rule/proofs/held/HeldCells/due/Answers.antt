@@ -1,4 +1,4 @@
-use Rattle.std.proofs.Common.{◌≡◌, subst, List, Some, MatchOption}
+use Rattle.std.proofs.Common.{◌≡◌, subst, Some, MatchOption}
 use Rattle.std.specs.Prelude.{slice_get}
 use Rattle.push_rule.specs.Bytes.{HeldView}
 use Rattle.push_rule.proofs.Sound.{due_is, due_stands}

@@ -1,4 +1,4 @@
-use Rattle.std.proofs.Common.{◌≡◌, ◌<◌, ◌∙◌, ap, sym, subst, length, List, ℤ, pos, Option, Some, None, arith}
+use Rattle.std.proofs.Common.{◌≡◌, ◌∙◌, ap, sym, subst, List, ℤ, pos, Option, Some, None}
 use Rattle.std.specs.Prelude.{slice_set}
 use Rattle.push_rule.specs.declared.held.Due.{Due}
 use Rattle.push_rule.specs.Bytes.{HeldView, with_due, held_cells, AreSound}

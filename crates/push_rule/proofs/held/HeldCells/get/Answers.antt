@@ -1,7 +1,7 @@
-use Rattle.std.proofs.Common.{◌≡◌, ◌<◌, ◌∙◌, ap, sym, subst, length, List, ℤ, Bool, true, false, Option, Some, None, arith, rules, w8, to_z, of_z}
+use Rattle.std.proofs.Common.{◌≡◌, ◌∙◌, ap, sym, ℤ, true, false, Option, Some, arith, rules, w8, to_z, of_z}
 use Rattle.std.specs.Prelude.{slice_get, unwrap_or}
 use Rattle.std.proofs.lemmas.Int.{ints}
-use Rattle.push_rule.specs.Bytes.{HeldView, is_wide, with_due, held_cells}
+use Rattle.push_rule.specs.Bytes.{HeldView, is_wide, with_due}
 use Rattle.push_rule.proofs.HeldLemmas.{within_bytes}
 use Rattle.push_rule.proofs.Sound.{at_small, at_wide, small_at, stood_at}
 use Rattle.push_rule.proofs.held.HeldCells.get.Goals as goal

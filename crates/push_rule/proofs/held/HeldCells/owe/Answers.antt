@@ -1,5 +1,5 @@
-use Rattle.std.proofs.Common.{◌≡◌, ◌<◌, ◌∙◌, ap, sym, subst, length, List, ◌∷◌, ℤ, Option, Some, None, arith, rules, w8, to_z, of_z}
-use Rattle.std.specs.Prelude.{slice_set, option_map}
+use Rattle.std.proofs.Common.{◌≡◌, ◌<◌, ◌∙◌, ap, sym, subst, length, List, ◌∷◌, ℤ, Option, Some, None, rules, w8, to_z, of_z}
+use Rattle.std.specs.Prelude.{slice_set}
 use Rattle.push_rule.specs.declared.held.Due.{Due}
 use Rattle.push_rule.specs.Bytes.{HeldView, byte_of, with_due, held_cells, AreSound}
 use Rattle.push_rule.proofs.HeldLemmas.{AreSmall, are_small, within_bytes}

@@ -1,6 +1,6 @@
-use Rattle.std.proofs.Common.{◌≡◌, ◌<◌, ◌∙◌, ap, sym, subst, length, List, ◌∷◌, ℕ, ℤ, Option, Some, None, arith}
-use Rattle.std.specs.Prelude.{slice_set, option_map}
-use Rattle.std.proofs.lemmas.Option.{same_Some, none-some}
+use Rattle.std.proofs.Common.{◌≡◌, ◌<◌, ◌∙◌, ap, sym, subst, length, List, ℤ, Option, None, arith}
+use Rattle.std.specs.Prelude.{slice_set}
+use Rattle.std.proofs.lemmas.Option.{none-some}
 use Rattle.push_rule.specs.declared.held.Due.{Due}
 use Rattle.push_rule.specs.Bytes.{HeldView, byte_of, with_due, held_cells, AreSound}
 use Rattle.push_rule.proofs.HeldLemmas.{AreSmall, are_small, within_bytes}

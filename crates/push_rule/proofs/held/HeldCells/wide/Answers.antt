@@ -1,4 +1,4 @@
-use Rattle.std.proofs.Common.{◌≡◌, ◌∙◌, ap, subst, List, ℤ}
+use Rattle.std.proofs.Common.{◌∙◌, ap, List, ℤ}
 use Rattle.std.specs.Prelude.{count_by, is_none}
 use Rattle.push_rule.specs.Bytes.{HeldView, is_wide, with_due}
 use Rattle.push_rule.proofs.HeldLemmas.{AreSmall, are_small}

@@ -1,4 +1,4 @@
-use Rattle.std.proofs.Common.{◌≡◌, ◌∙◌, ap, sym, arith, ℕ, Some, None}
+use Rattle.std.proofs.Common.{◌≡◌, ◌∙◌, ap, sym, arith, ℕ, Some}
 use Rattle.push_rule.proofs.Sides.{entry_at}
 use Rattle.push_rule.proofs.side.Side.place_of.Goals as goal
 

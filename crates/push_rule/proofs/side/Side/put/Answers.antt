@@ -1,4 +1,4 @@
-use Rattle.push_rule.proofs.Sides.{IsWritten, written}
+use Rattle.push_rule.proofs.Sides.{written}
 use Rattle.push_rule.proofs.side.Side.put.Goals as goal
 
 pub returns-in-Some-clause-put : goal.returns-in-Some-clause-put
