@@ -1,0 +1,5 @@
+use Rattle.std.proofs.Common.{length}
+use Rattle.pcapng_read.proofs.judge.block.Goals as goal
+
+pub returns-clause-wants : goal.returns-clause-wants
+returns-clause-wants c = c.passed.ensures.decided (length c.args.bytes.now)

@@ -1,0 +1,5 @@
+use Rattle.std.proofs.Common.{length}
+use Rattle.pcapng_read.proofs.judge.simple.Goals as goal
+
+pub returns-clause-wants : goal.returns-clause-wants
+returns-clause-wants c = c.simple_by.ensures.decided (length c.args.bytes.now)
