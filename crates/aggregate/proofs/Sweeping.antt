@@ -50,7 +50,7 @@ lane_more r place more m a b c within h layout outs kept =
     record {
       took = outs ∙ more_one (takens a.outs) (takens b.outs) place more m within h.took;
       kept = kept ∙ ap (λ (l : Layout). cond (fits r l m) (kept_by b ++ m ∷ []) (kept_by b)) layout
-      ∙ ap (λ (l : List Push). cond (p m) (l ++ m ∷ []) l) h.kept ∙ kept_more p (kept_by a) more m (p m) refl;
+          ∙ ap (λ (l : List Push). cond (p m) (l ++ m ∷ []) l) h.kept ∙ kept_more p (kept_by a) more m (p m) refl;
     }
 
 -- nothing was taken yet
@@ -134,10 +134,10 @@ swept_next r mores more a b c place len within h layout few lane =
     record {
       took = taken_next a.batch mores more a.outs b.outs c.outs place len within h.took few lane.took;
       kept = lane.kept
-      ∙ ap (λ (l : Layout). kept_by b ++ filter (fits r l) more) layout
-      ∙ ap (λ (l : List Push). l ++ filter p more) h.kept
-      ∙ append_assoc (kept_by a) (filter p (in_order mores)) (filter p more)
-      ∙ ap (λ (l : List Push). kept_by a ++ l) (sym (filter-append p (in_order mores) more) ∙ ap (filter p) (sym (order_next mores more)));
+          ∙ ap (λ (l : Layout). kept_by b ++ filter (fits r l) more) layout
+          ∙ ap (λ (l : List Push). l ++ filter p more) h.kept
+          ∙ append_assoc (kept_by a) (filter p (in_order mores)) (filter p more)
+          ∙ ap (λ (l : List Push). kept_by a ++ l) (sym (filter-append p (in_order mores) more) ∙ ap (filter p) (sym (order_next mores more)));
     }
 
 -- what is published afterwards changes nothing of it

@@ -19,10 +19,10 @@ use crate::worker::{BLOCK, Part, run_block};
 use flow_base::NoMemory;
 use hash_rows::{Answers, Keys, Kind, Options, Packet, Push};
 use live_state::State;
+use push_rule::Counter;
+use shares::Positions;
 use std::alloc::Global;
 use std::thread::{Threads, for_each_mut};
-use shares::Positions;
-use push_rule::Counter;
 
 /// Runs rounds while a worker has updates left or its lane a message.
 pub fn run_while_busy<K: Kind, R: Threads + Sync>(

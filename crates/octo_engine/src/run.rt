@@ -9,9 +9,9 @@ ghost use Rattle.push_history.specs.LagRun.{lag_run};
 ghost use Rattle.push_history.specs.Rounds.{AreRounds, IsRoundsJournal};
 ghost use Rattle.round_law.specs.Outcome.{IsNearAnswer, IsWhole, MatchesFront};
 
-use crate::settle::settle;
 use crate::looks::{asked_keys, look_at_end, looks_wanted};
 use crate::rounds::run_while_busy;
+use crate::settle::settle;
 use crate::setup::{parts_of, state_of};
 use flow_base::NoMemory;
 use hash_rows::{Answers, BitRows, Counts, Keys, Kind, Options, Packet, Table};

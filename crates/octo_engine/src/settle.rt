@@ -15,15 +15,15 @@ ghost use Rattle.push_rule.specs.Keeps.{Keeps};
 ghost use Rattle.octo_engine.specs.Residues.{HasJoined, HasRefused, IsKept, IsRow};
 
 use crate::looks::{answers_from, copy_counts};
-use crate::worker::Part;
 use crate::run::Settled;
+use crate::worker::Part;
 use flow_base::NoMemory;
-use hash_rows::{Answers, Kind, Options, Packet, Table, BitRows, Bits, Keys};
-use live_state::State;
-use std::alloc::Global;
-use push_rule::Counter;
+use hash_rows::{Answers, BitRows, Bits, Keys, Kind, Options, Packet, Table};
 use heavy_keys::Heavy;
 use listed::Listed;
+use live_state::State;
+use push_rule::Counter;
+use std::alloc::Global;
 
 /// What the run comes to, from the parts, the state and the looks after its last round.
 pub fn settle<K: Kind>(

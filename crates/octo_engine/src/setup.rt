@@ -13,12 +13,12 @@ ghost use Rattle.octo_engine.specs.Parts.{IsSound, block};
 ghost use Rattle.octo_engine.specs.Rounds.{AreParts, Suit};
 
 use crate::worker::{BLOCK, Part};
-use shares::{Owners, amounts_fit, owners_of, positions_of};
-use push_rule::{Counter, Private};
 use flow_base::NoMemory;
 use hash_rows::{Kind, Options, Packet};
 use listed::Listed;
 use live_state::State;
+use push_rule::{Counter, Private};
+use shares::{Owners, amounts_fit, owners_of, positions_of};
 use std::alloc::Global;
 
 /// The parts of all workers, which have counted nothing.

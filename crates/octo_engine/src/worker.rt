@@ -11,12 +11,12 @@ ghost use Rattle.octo_engine.specs.Parts.{AreEnds, HasRun, IsSound, RanBlock, bl
 ghost use Rattle.hash_rows.specs.Shapes.{IsShape, size_of};
 ghost use Rattle.push_history.specs.Rounds.{is_waits};
 
-use shares::Positions;
-use push_rule::Counter;
 use hash_rows::{Kind, Options, Packet, Shape, Update, cell_in_row, hash_in_row, key_hash};
 use listed::Listed;
-use std::thread::{Threads, for_each_mut};
 use push_history::Reply;
+use push_rule::Counter;
+use shares::Positions;
+use std::thread::{Threads, for_each_mut};
 
 /// The rounds that each worker runs by itself before their messages are folded.
 pub const BLOCK: u32 = 128;

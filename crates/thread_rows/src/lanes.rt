@@ -1,8 +1,8 @@
 ghost use Rattle.std.specs.Prelude.{◌≡◌, ◌≤◌, ◌<◌, ◌+◌, ◌^◌, length};
 
-use push_lane::{InPass, Lane, OutPass};
 use hash_rows::Push;
 use packet_key::FlowKey;
+use push_lane::{InPass, Lane, OutPass};
 use std::sync::Wait;
 use std::test::*;
 use std::thread;

@@ -10,8 +10,7 @@ loop-count-preserved g c =
     let h = c.loop-count.invariant in
     let m = c.in-Some.message in
     let lists = takens c.args.outs.now.items in
-    let within : c.args.place < length lists = ends_within c.args.lanes.now c.args.outs.now.items c.args.place c.requires.ends c.requires.place in
-    (
+    let within : c.args.place < length lists = ends_within c.args.lanes.now c.args.outs.now.items c.args.place c.requires.ends c.requires.place in (
       c.in-Some.ensures.ends,
       (
         h.1.0 ++ m ∷ [],

@@ -49,8 +49,7 @@ returns-in_err-taken-clause-swept g c =
     let inside : c.loop-place.place < length lanes = omega (arith, all, kept, view, c.len-place-end.ensures, c.loop-place-test.true) in
     let within : c.loop-place.place < length (takens mid.outs) = ends_within lanes mid.outs c.loop-place.place h.ends inside in
     let few : length s.0 ≤ c.args.self.now.batch = omega (arith, s.2, h.same.batch) in
-    let none : IfOk c.from_residual-in_err-taken.result (λ x. x.taken ≡ length (in_order (h.swept.0 ++ s.0 ∷ []))) = search rules in
-    (
+    let none : IfOk c.from_residual-in_err-taken.result (λ x. x.taken ≡ length (in_order (h.swept.0 ++ s.0 ∷ []))) = search rules in (
       h.swept.0 ++ s.0 ∷ [],
       swept_next g.K.Kind.rules h.swept.0 s.0 c.args.self.now mid c.sweep_lane.new.self c.loop-place.place h.swept.3 within h.swept.1 h.same.layout few s.1,
       none,
