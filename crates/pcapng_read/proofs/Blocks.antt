@@ -1,13 +1,13 @@
 -- Blocks behind blocks, and what stands behind bytes that hold a refusal.
-use Rattle.std.proofs.Common.{◌≡◌, ◌≢◌, ◌≤◌, ◌<◌, ℕ, ◌+◌, ◌-◌, ◌==◌, List, [], ◌∷◌, ◌++◌, length, take, drop, fold, Option, Some, None, Bool, true, false, refl, sym, ap, ◌∙◌, subst, arith, append_assoc, length-append, nat_lt, if◌then◌else◌}
+use Rattle.std.proofs.Common.{◌≡◌, ◌≤◌, ◌<◌, ℕ, ◌-◌, ◌==◌, List, [], ◌∷◌, ◌++◌, length, Some, None, Bool, true, false, refl, sym, ap, ◌∙◌, subst, arith, append_assoc, length-append, nat_lt, if◌then◌else◌}
 use Rattle.std.specs.List.{flat_map}
-use Rattle.std.proofs.lemmas.List.{append-nil, take_at, drop_at}
+use Rattle.std.proofs.lemmas.List.{append-nil}
 use Rattle.pcap_read.specs.Header.{number_at}
 use Rattle.pcap_read.specs.Records.{Framed}
 use Rattle.pcap_read.proofs.Numbers.{number_at_append}
 use Rattle.pcapng_read.specs.Blocks.{start, judged, behind, keep_of, place_in, block_refusal, refusal_by}
 use Rattle.pcapng_read.specs.Plans.{IsSoundPlan, Late}
-use Rattle.pcapng_read.specs.Capture.{Block, text, IsBlock, AreBlocks, walk_behind, IsPart, Cuts, RefusesNext}
+use Rattle.pcapng_read.specs.Capture.{Block, text, IsBlock, AreBlocks, walk_behind, IsPart, RefusesNext}
 use Rattle.pcapng_read.proofs.Heads.{Goes, judged_goes, judged_late}
 use Rattle.pcapng_read.specs.declared.bad.NgBad.{NgBad}
 use Rattle.pcapng_read.specs.declared.bad.NgBad.TheVariants.{BadBlock}

@@ -1,5 +1,5 @@
 -- What the end of input says of all the bytes.
-use Rattle.std.proofs.Common.{◌≡◌, ◌<◌, ℕ, ◌+◌, List, [], ◌∷◌, ◌++◌, length, Option, Some, None, refl, sym, ap, ◌∙◌, subst, inl, inr, arith, suc}
+use Rattle.std.proofs.Common.{◌≡◌, ◌<◌, ℕ, List, [], ◌∷◌, length, Option, Some, None, refl, sym, ap, ◌∙◌, subst, inr, arith}
 use Rattle.pcap_read.specs.Records.{Framed}
 use Rattle.pcap_read.specs.declared.bad.Order.{Order}
 use Rattle.pcapng_read.specs.Blocks.{start, behind, behind_by}

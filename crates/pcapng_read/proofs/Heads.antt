@@ -1,12 +1,12 @@
 -- What the first bytes of a block tell doesn't depend on the bytes behind.
-use Rattle.std.proofs.Common.{◌≡◌, ◌≢◌, ◌≤◌, ◌<◌, ℕ, ◌+◌, ◌-◌, ◌*◌, ◌/◌, ◌%◌, ◌==◌, ◌&&◌, not, List, ◌++◌, length, Option, Some, None, Bool, true, false, refl, sym, ap, ◌∙◌, subst, arith, length-append, nat_lt, nat_le, if◌then◌else◌}
+use Rattle.std.proofs.Common.{◌≡◌, ◌≢◌, ◌≤◌, ◌<◌, ℕ, ◌+◌, ◌==◌, not, List, ◌++◌, length, Option, Some, None, Bool, true, false, refl, sym, ap, ◌∙◌, subst, arith, length-append, nat_lt, nat_le, if◌then◌else◌}
 use Rattle.pcap_read.specs.Header.{number_at}
 use Rattle.pcap_read.specs.Records.{most_captured}
 use Rattle.pcap_read.proofs.Numbers.{number_at_append}
 use Rattle.pcap_read.specs.declared.bad.Order.{Order}
-use Rattle.pcap_read.specs.declared.bad.Order.TheVariants.{Little, Big}
-use Rattle.pcapng_read.specs.Blocks.{block_judged, enhanced_judged, first_judged, interface_judged, is_length, judged, judged_in, keep_of, link_judged, need, numbered_judged, packet_judged, padded, passed_judged, place_in, plan_of, section_in, section_judged, section_order, section_type, simple_captured, simple_in, simple_judged, version_judged}
-use Rattle.pcapng_read.specs.Plans.{IsSoundPlan, Late, count_in}
+use Rattle.pcap_read.specs.declared.bad.Order.TheVariants.{Big}
+use Rattle.pcapng_read.specs.Blocks.{block_judged, enhanced_judged, first_judged, interface_judged, is_length, judged, judged_in, link_judged, need, numbered_judged, packet_judged, padded, passed_judged, place_in, plan_of, section_in, section_judged, section_order, section_type, simple_captured, simple_in, simple_judged, version_judged}
+use Rattle.pcapng_read.specs.Plans.{Late}
 use Rattle.pcapng_read.specs.declared.bad.NgBad.{NgBad}
 use Rattle.pcapng_read.specs.declared.bad.NgBad.TheVariants.{BadOrder, BadVersion, BadBlock, NotEthernet, NoInterface, TooLong, TooMany}
 use Rattle.pcapng_read.specs.declared.block.Walk.{Walk}

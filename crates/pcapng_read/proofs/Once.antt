@@ -1,13 +1,12 @@
 -- A list of bytes is a pcapng capture, or refused, in one way only.
-use Rattle.std.proofs.Common.{◌≡◌, ◌≤◌, ◌<◌, ℕ, List, [], ◌∷◌, ◌++◌, length, take, drop, Some, refl, sym, ap, ◌∙◌, subst, inl, inr, arith, append_assoc}
+use Rattle.std.proofs.Common.{◌≡◌, ℕ, List, [], ◌∷◌, ◌++◌, length, take, drop, Some, refl, sym, ap, ◌∙◌, subst, inl, inr, arith, append_assoc}
 use Rattle.std.specs.List.{flat_map}
 use Rattle.std.proofs.lemmas.List.{take_at, drop_at}
 use Rattle.pcap_read.specs.Records.{Framed}
 use Rattle.pcapng_read.specs.Blocks.{start, judged, behind, block_refusal}
-use Rattle.pcapng_read.specs.Capture.{Block, text, framed, IsBlock, AreBlocks, walk_behind, IsPart, Cuts, IsNgCapture, RefusesNext, NgOutcome, NgWhole, NgRefused, NgCaptureOf}
+use Rattle.pcapng_read.specs.Capture.{Block, text, framed, IsBlock, AreBlocks, walk_behind, Cuts, IsNgCapture, RefusesNext, NgOutcome, NgWhole, NgRefused, NgCaptureOf}
 use Rattle.pcapng_read.proofs.Blocks.{Stops, known_stays, part_stops, refusal_stops, part_fine}
 use Rattle.pcapng_read.specs.declared.bad.NgBad.{NgBad}
-use Rattle.pcapng_read.specs.declared.bad.NgBad.TheVariants.{ShortSection}
 use Rattle.pcapng_read.specs.declared.block.Walk.{Walk}
 use Rattle.pcapng_read.specs.declared.block.Plan.{Plan}
 use Rattle.pcapng_read.specs.declared.block.Judged.TheVariants.{Known}

@@ -1,13 +1,13 @@
 -- Where a reader stands after it took bytes.
-use Rattle.std.proofs.Common.{◌≡◌, ◌≢◌, ◌≤◌, ◌<◌, ℕ, ◌+◌, ◌-◌, ◌==◌, List, [], ◌∷◌, ◌++◌, length, take, drop, Option, Some, None, Bool, true, false, refl, sym, ap, ◌∙◌, subst, arith, append_assoc, length-append, length-take, nat_lt}
+use Rattle.std.proofs.Common.{◌≡◌, ◌≢◌, ◌≤◌, ◌<◌, ℕ, ◌+◌, ◌-◌, ◌==◌, List, [], ◌∷◌, ◌++◌, length, take, drop, Some, false, refl, sym, ap, ◌∙◌, subst, arith, append_assoc, length-append, length-take, nat_lt}
 use Rattle.std.specs.List.{flat_map}
 use Rattle.std.proofs.lemmas.List.{append-nil, take-append-drop, nil_from_length}
 use Rattle.pcap_read.specs.Header.{number_at}
 use Rattle.pcap_read.specs.Records.{Framed}
 use Rattle.pcap_read.proofs.Numbers.{number_at_append}
 use Rattle.pcapng_read.specs.Blocks.{start, judged, judged_in, behind, behind_by, keep_of, keep_in, place_in, block_refusal, refusal_by}
-use Rattle.pcapng_read.specs.Plans.{IsSoundPlan, Late}
-use Rattle.pcapng_read.specs.Capture.{Block, text, framed, frame_in, IsBlock, AreBlocks, walk_behind, IsPart, Cuts, RefusesNext}
+use Rattle.pcapng_read.specs.Plans.{Late}
+use Rattle.pcapng_read.specs.Capture.{Block, text, framed, frame_in, IsBlock, walk_behind, IsPart, Cuts, RefusesNext}
 use Rattle.pcapng_read.specs.View.{NgReaderView, Stands, kept_in, kept_of}
 use Rattle.pcapng_read.proofs.Heads.{Goes, Wants, judged_goes, judged_wants}
 use Rattle.pcapng_read.proofs.Blocks.{blocks_push, walk_push, flat_push, known_stays, known_sound, refusal_stays}

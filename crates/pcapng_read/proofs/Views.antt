@@ -4,7 +4,7 @@ use Rattle.pcap_read.specs.Records.{Framed}
 use Rattle.pcapng_read.specs.Blocks.{behind_by, keep_in}
 use Rattle.pcapng_read.specs.Plans.{count_in}
 use Rattle.pcapng_read.specs.Capture.{frame_in}
-use Rattle.pcapng_read.specs.Inside.{view_of, lent_in, held_in, data_of, IsInBlock, IsLending}
+use Rattle.pcapng_read.specs.Inside.{view_of, lent_in, data_of, IsInBlock, IsLending}
 use Rattle.pcapng_read.specs.View.{NgReaderView, Stands}
 use Rattle.pcap_read.specs.declared.bad.Order.{Order}
 use Rattle.pcapng_read.specs.declared.block.Walk.{Walk}

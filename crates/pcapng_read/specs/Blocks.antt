@@ -1,6 +1,6 @@
 -- The blocks of a pcapng file (draft-ietf-opsawg-pcapng), and what their first bytes tell. What a type 3 block's captured length is,
 -- the limits, and what is refused, are this product's own.
-use Rattle.std.specs.Prelude.{◌≡◌, ℕ, ◌+◌, ◌-◌, ◌*◌, ◌/◌, ◌%◌, ◌==◌, ◌&&◌, not, min, Bool, List, length, Option, Some, None, nat_lt, nat_le, if◌then◌else◌}
+use Rattle.std.specs.Prelude.{ℕ, ◌+◌, ◌-◌, ◌*◌, ◌/◌, ◌%◌, ◌==◌, ◌&&◌, not, min, Bool, List, length, Option, Some, None, nat_lt, nat_le, if◌then◌else◌}
 use Rattle.pcap_read.specs.Header.{number_at}
 use Rattle.pcap_read.specs.Records.{most_captured}
 use Rattle.pcap_read.specs.declared.bad.Order.{Order}

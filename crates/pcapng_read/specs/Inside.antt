@@ -4,7 +4,6 @@ use Rattle.pcap_read.specs.Records.{Framed, most_captured}
 use Rattle.pcapng_read.specs.Blocks.{judged, keep_of}
 use Rattle.pcapng_read.specs.Plans.{IsCounted, IsSoundPlan}
 use Rattle.pcapng_read.specs.View.{NgReaderView, refused_at}
-use Rattle.pcapng_read.specs.declared.bad.NgBad.{NgBad}
 use Rattle.pcapng_read.specs.declared.block.Body.{Body}
 use Rattle.pcapng_read.specs.declared.block.Body.TheVariants.{Section, Interface, Packet, Passed}
 use Rattle.pcapng_read.specs.declared.block.Judged.{Judged}

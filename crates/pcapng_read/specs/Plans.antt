@@ -1,5 +1,5 @@
 -- What is so of each block that is known.
-use Rattle.std.specs.Prelude.{◌≡◌, ◌≢◌, ◌<◌, ◌≤◌, ℕ, ◌+◌, ◌*◌}
+use Rattle.std.specs.Prelude.{◌≢◌, ◌<◌, ◌≤◌, ℕ, ◌+◌, ◌*◌}
 use Rattle.pcap_read.specs.Records.{most_captured}
 use Rattle.pcapng_read.specs.Blocks.{keep_of}
 use Rattle.pcapng_read.specs.declared.block.Walk.{Walk}

@@ -2,7 +2,6 @@
 use Rattle.std.specs.Prelude.{◌≡◌, ◌≤◌, ◌<◌, ◌↔◌, ℕ, ◌+◌, ◌*◌, true, false, IsTrue, IsSome, List, [], ◌∷◌, ◌++◌, length, take, Option, Some, None, Ok, Err, MatchResult, MatchBool, Result, if◌then◌else◌}
 use Rattle.pcap_read.specs.Records.{Framed}
 use Rattle.pcap_read.specs.declared.bad.Order.{Order}
-use Rattle.pcapng_read.specs.Blocks.{behind, keep_of}
 use Rattle.pcapng_read.specs.Capture.{RefusesNext, NgOutcome, NgWhole, NgRefused}
 use Rattle.pcapng_read.specs.View.{NgReaderView, Stands}
 use Rattle.pcapng_read.specs.declared.bad.NgBad.{NgBad}

@@ -1,9 +1,9 @@
 -- Where a reader stands in a pcapng capture.
-use Rattle.std.specs.Prelude.{◌≡◌, ℕ, ◌-◌, List, [], ◌++◌, length, take, drop, Option, Some, None}
+use Rattle.std.specs.Prelude.{◌≡◌, ℕ, ◌-◌, List, [], ◌++◌, length, take, drop, Option, None}
 use Rattle.pcap_read.specs.Records.{Framed}
 use Rattle.std.specs.List.{flat_map}
 use Rattle.pcapng_read.specs.Blocks.{start, judged, keep_of}
-use Rattle.pcapng_read.specs.Capture.{Block, Cuts, framed, text, walk_behind}
+use Rattle.pcapng_read.specs.Capture.{Block, Cuts, framed, walk_behind}
 use Rattle.pcapng_read.specs.declared.bad.NgBad.{NgBad}
 use Rattle.pcapng_read.specs.declared.block.Walk.{Walk}
 use Rattle.pcapng_read.specs.declared.block.Plan.{Plan}

@@ -20,6 +20,9 @@ pub struct Walk {
     pub offset: u128,
 }
 
+// How many interfaces a section begins with.
+const AT_FIRST: u32 = 0;
+
 /// Nothing stands in front of the first block.
 pub const START: Walk = Walk {
     order: None,
@@ -98,7 +101,7 @@ impl Walk {
         match plan.body {
             Body::Section => Walk {
                 order,
-                interfaces: 0,
+                interfaces: AT_FIRST,
                 snapshot: 0,
                 packets: self.packets,
                 others: self.others + 1,

@@ -1,4 +1,4 @@
-use Rattle.std.proofs.Common.{◌≡◌, ℕ, List, sym, subst, Result}
+use Rattle.std.proofs.Common.{ℕ, sym, subst, Result}
 use Rattle.pcapng_read.specs.Capture.{NgCaptureOf}
 use Rattle.pcapng_read.specs.Takes.{outcome_of}
 use Rattle.pcapng_read.specs.declared.bad.NgBad.{NgBad}

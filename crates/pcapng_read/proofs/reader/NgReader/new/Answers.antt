@@ -1,9 +1,9 @@
-use Rattle.std.proofs.Common.{rules, arith, refl, ◌≡◌, []}
+use Rattle.std.proofs.Common.{arith, refl, ◌≡◌, []}
 use Rattle.pcapng_read.specs.Blocks.{start, judged, judged_in}
 use Rattle.pcapng_read.specs.Capture.{AreBlocks}
 use Rattle.pcapng_read.specs.declared.block.Judged.TheVariants.{Waits}
 use Rattle.std.specs.Prelude.{ℕ}
-use Rattle.std.proofs.Common.{ap, sym, ◌∙◌, List, subst}
+use Rattle.std.proofs.Common.{ap, sym, ◌∙◌, subst}
 use Rattle.pcapng_read.specs.Capture.{IsPart}
 use Rattle.pcapng_read.specs.declared.block.Judged.{Judged}
 use Rattle.pcapng_read.proofs.reader.NgReader.new.Goals as goal

@@ -1,11 +1,10 @@
-use Rattle.std.proofs.Common.{rules, arith, ◌≡◌, ◌≤◌, ◌<◌, ◌+◌, ◌-◌, ◌++◌, ℕ, List, length, take, drop, sym, ap, ◌∙◌, subst, append_assoc, length-take, length-drop}
+use Rattle.std.proofs.Common.{arith, ◌≡◌, ◌≤◌, ◌-◌, ◌++◌, ℕ, List, length, take, drop, ap, ◌∙◌, subst, append_assoc, length-take, length-drop}
 use Rattle.std.proofs.lemmas.List.{take-append-drop, take_rest}
-use Rattle.pcap_read.specs.Records.{Framed}
 use Rattle.pcap_read.proofs.Pieces.{more_taken}
 use Rattle.pcapng_read.specs.Capture.{RefusesNext}
-use Rattle.pcapng_read.specs.View.{NgReaderView, Stands}
+use Rattle.pcapng_read.specs.View.{Stands}
 use Rattle.pcapng_read.specs.Takes.{TakesPacket}
-use Rattle.pcapng_read.proofs.Views.{when_not, when_so, none_by, count_not, count_so}
+use Rattle.pcapng_read.proofs.Views.{when_not, when_so, none_by, count_not}
 use Rattle.pcapng_read.proofs.reader.NgReader.take_blocks.Goals as goal
 
 pub loop-at-preserved : goal.loop-at-preserved

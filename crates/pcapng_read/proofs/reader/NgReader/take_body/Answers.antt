@@ -1,10 +1,9 @@
-use Rattle.std.proofs.Common.{rules, arith, ◌≡◌, ◌≢◌, ◌≤◌, ◌<◌, ◌+◌, ◌-◌, ◌++◌, ◌∷◌, [], ℕ, List, length, take, drop, Some, None, refl, sym, ap, ◌∙◌, subst, length-take, vec_len, min}
-use Rattle.std.proofs.lemmas.List.{append-nil, take-append-drop}
+use Rattle.std.proofs.Common.{arith, ◌≡◌, ◌+◌, ◌++◌, ◌∷◌, [], ℕ, List, length, take, drop, refl, sym, ap, ◌∙◌, subst, length-take}
+use Rattle.std.proofs.lemmas.List.{take-append-drop}
 use Rattle.pcap_read.specs.Header.{number_at}
-use Rattle.pcap_read.specs.Records.{Framed}
 use Rattle.pcapng_read.specs.Blocks.{judged, keep_of}
-use Rattle.pcapng_read.specs.Capture.{RefusesNext, frame_in}
-use Rattle.pcapng_read.specs.View.{NgReaderView, Stands}
+use Rattle.pcapng_read.specs.Capture.{RefusesNext}
+use Rattle.pcapng_read.specs.View.{NgReaderView}
 use Rattle.pcapng_read.specs.declared.block.Walk.{Walk}
 use Rattle.pcapng_read.specs.declared.block.Judged.TheVariants.{Known, Waits}
 use Rattle.pcapng_read.proofs.Views.{plain_view, not_lending, stands_inside, in_block, no_frame, some_frame, some_keep, behind_few, count_below, frame_at}

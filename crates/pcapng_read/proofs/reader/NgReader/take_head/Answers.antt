@@ -1,8 +1,8 @@
-use Rattle.std.proofs.Common.{rules, arith, ◌≡◌, ◌≤◌, ◌<◌, ◌+◌, ◌-◌, ◌++◌, [], ℕ, List, length, take, drop, Some, None, refl, sym, ap, ◌∙◌, subst, length-take, length-append, vec_len, min}
+use Rattle.std.proofs.Common.{arith, ◌≡◌, ◌≤◌, ◌+◌, ◌-◌, ◌++◌, ℕ, List, length, take, drop, refl, sym, ap, ◌∙◌, subst, length-take, length-append}
 use Rattle.std.proofs.lemmas.List.{take-append-drop}
 use Rattle.pcapng_read.specs.Blocks.{judged, keep_of}
 use Rattle.pcapng_read.specs.Capture.{RefusesNext}
-use Rattle.pcapng_read.specs.View.{NgReaderView, Stands}
+use Rattle.pcapng_read.specs.View.{NgReaderView}
 use Rattle.pcapng_read.specs.declared.block.Judged.TheVariants.{Known, Waits, Refused}
 use Rattle.pcapng_read.proofs.Views.{plain_view, not_lending, stands_inside, in_block}
 use Rattle.pcapng_read.proofs.Blocks.{known_late}

@@ -1,9 +1,8 @@
-use Rattle.std.proofs.Common.{rules, arith, ◌≡◌, ◌≤◌, ◌<◌, ◌+◌, ◌-◌, ◌++◌, ◌∷◌, [], ℕ, List, length, take, drop, Some, None, refl, sym, ap, ◌∙◌, subst}
+use Rattle.std.proofs.Common.{arith, ◌≡◌, ◌∷◌, [], ℕ, List, take, drop, refl, sym, ap, ◌∙◌, subst}
 use Rattle.pcap_read.specs.Records.{Framed}
 use Rattle.pcapng_read.specs.Blocks.{judged}
 use Rattle.pcapng_read.specs.Plans.{IsSoundPlan}
-use Rattle.pcapng_read.specs.Capture.{frame_in}
-use Rattle.pcapng_read.specs.View.{NgReaderView, Stands}
+use Rattle.pcapng_read.specs.View.{NgReaderView}
 use Rattle.pcapng_read.specs.declared.block.Walk.{Walk}
 use Rattle.pcapng_read.specs.declared.block.Judged.TheVariants.{Known, Waits}
 use Rattle.pcapng_read.proofs.Views.{plain_view, not_lending, stands_inside, some_frame, behind_few, count_below, frame_at}
