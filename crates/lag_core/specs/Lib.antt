@@ -2,3 +2,4 @@ pub mod Lanes
 pub mod Sights
 pub mod Workers
 pub mod Lags
+pub mod Laws

@@ -68,7 +68,8 @@ impl<K: Kind> Lag<K> {
     ghost use Rattle.push_history.specs.declared.event.Event.TheVariants.{Update, Take, Publish, Ask};
     ghost use Rattle.push_history.specs.LagRun.{reply_to};
     ghost use Rattle.lag_core.specs.Workers.{terms_of};
-    ghost use Rattle.lag_core.specs.Lags.{HasRun, Steps, IsWithin, workers_of};
+    ghost use Rattle.lag_core.specs.Lags.{HasRun, Steps, IsWithin, run_state, workers_of};
+    ghost use Rattle.lag_core.specs.Laws.{Conserves, IsLawfulCore};
 
     /// A run in which nothing has happened: a worker for each list of updates, lanes of so many
     /// messages, a live table of `heavy` keys whose estimate is at least `least`, and so many readers.
@@ -93,6 +94,10 @@ impl<K: Kind> Lag<K> {
         ensures limits { IfOk result (λ lag. lag.limits ≡ record { threshold = threshold; capacity = capacity; full = full; updates = map (λ row. row.items) updates.items }) }
         ensures readers { IfOk result (λ lag. length lag.seen ≡ readers) }
         ensures heavy { IfOk result (λ lag. (lag.heavy.limit ≡ heavy) × (lag.heavy.least ≡ least)) }
+        ensures lawful { IfOk result (λ lag. (events : List Event) → HasRun K.stands K.rules lag events →
+            IsLawfulCore K.rules lag (run_state K.rules lag events)) }
+        ensures conserves { IfOk result (λ lag. (events : List Event) → HasRun K.stands K.rules lag events →
+            Conserves K.rules lag (run_state K.rules lag events)) }
     {
         let workers = updates.len();
         let (sketches, lanes) = new_workers::<K>(alloc, &shape, threshold, capacity, &updates)?;
@@ -127,6 +132,10 @@ impl<K: Kind> Lag<K> {
         ensures stands { (events : List Event) → HasRun K.stands K.rules self.old events →
             HasRun K.stands K.rules self.new (events ++ event ∷ []) ×
             (result ≡ reply_to (terms_of K.rules self.old.limits) (length self.old.seen) events event) }
+        ensures lawful { (events : List Event) → HasRun K.stands K.rules self.new events →
+            IsLawfulCore K.rules self.new (run_state K.rules self.new events) }
+        ensures conserves { (events : List Event) → HasRun K.stands K.rules self.new events →
+            Conserves K.rules self.new (run_state K.rules self.new events) }
     {
         self.run(event)
     }

@@ -33,7 +33,7 @@ told_append r laws cell S T first second =
     amounts xs all = All-map (λ y. r.is_value y ≡ true) (λ m. m.amount) (filter (λ m. m.cell == cell) xs) (All-filter (λ m. m.cell == cell) (λ m. r.is_value m.amount ≡ true) xs all)
 
 -- of one worker, with its messages cut into three
-conserved_of : (r : Rules) → AreLaws r → (T : ℕ) (U : List Entry) (n : ℕ) (S : List Push) (F : List ℕ) (shown folded queued : List Push) (cell : ℕ)
+pub conserved_of : (r : Rules) → AreLaws r → (T : ℕ) (U : List Entry) (n : ℕ) (S : List Push) (F : List ℕ) (shown folded queued : List Push) (cell : ℕ)
     → HoldValues r U → n ≤ length U → ArePushes r T (take n U) S F → S ≡ (shown ++ folded) ++ queued
     → whole r U n cell ≡ r.join (r.join (r.join (told_of r cell shown) (told_of r cell folded)) (told_of r cell queued)) (residue r U S n cell)
 unfolding whole residue

@@ -15,6 +15,7 @@ use Rattle.lag_core.proofs.Fresh.{core_fresh, zeros}
 use Rattle.std.proofs.lemmas.Option.{slice_get_within}
 use Rattle.std.proofs.lemmas.Slice.Zip.{AllZip-long}
 use Rattle.lag_core.proofs.Sizes.{zip_at, map_back, map_length, some_at}
+use Rattle.lag_core.proofs.CoreLaws.{conserves_at, lawful_at}
 use Rattle.lag_core.proofs.lag.Lag.new.Goals as goal
 
 pub invariant_of-result : goal.invariant_of-result
@@ -59,3 +60,9 @@ invariant_of-result g c =
 pub returns-clause-fresh : goal.returns-clause-fresh
 unfolding invariant_of-result
 returns-clause-fresh g c = (invariant_of-result g c).1
+
+pub returns-clause-lawful : goal.returns-clause-lawful
+returns-clause-lawful g c = λ events at. lawful_at g.K.Kind.stands g.K.Kind.rules _ _ at
+
+pub returns-clause-conserves : goal.returns-clause-conserves
+returns-clause-conserves g c = λ events at. conserves_at g.K.Kind.stands g.K.Kind.rules _ _ at (g.met.K.Kind g.world.𝓛 g.world.𝓜 g.world.𝓡 ((λ x y. y), (λ x. x), (λ x. x), (λ x. x))).laws
