@@ -85,12 +85,29 @@ impl Bits {
         place.min(len) as u32
     }
 
+    /// Clears all bits.
+    pub fn clear(&mut self)
+        ensures { self.new ≡ replicate (length self.old) false }
+    {
+        clear_words(&mut self.words);
+    }
+
     /// How many bits are set.
     pub fn count(&self) -> u32
         ensures { result ≡ count_by (λ mark. mark) self.now }
     {
         let _len = self.len;
         set_in(self.words.as_slice()) as u32
+    }
+}
+
+// Clears all bits of the words.
+fn clear_words(words: &mut Listed<u64>)
+    ensures items { words.new.items ≡ replicate (length words.old.items) 0 }
+    ensures room { words.new.room ≡ words.old.room }
+{
+    for place in 0..words.len() {
+        words.set(place, 0);
     }
 }
 
