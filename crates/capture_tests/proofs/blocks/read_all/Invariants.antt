@@ -1,5 +1,5 @@
 use Rattle.std.proofs.Common.{◌≤◌, ◌-◌, length}
-use Rattle.capture_rows.proofs.blocks.read_all.Given as goal
+use Rattle.capture_tests.proofs.blocks.read_all.Given as goal
 
 abbrev pub invariant-loop-at : goal.invariant-loop-at
 invariant-loop-at l = l.at ≤ length l.chunk
