@@ -45,13 +45,15 @@ fn attempt<W: Task, S: Source, T: Sink>(
     out: &mut T,
 ) -> Result<(), Fault>
     requires { W.ready task.now }
-    ensures done { OnOk result (Given (S.left source.old) (S.left source.new) (Reported (W.is_text task.now) (T.holds out.old) (T.holds out.new))) }
+    ensures done { OnOk result (Given (S.left source.old) (S.left source.new)
+        (Reported (W.is_text task.now) (T.holds out.old) (T.holds out.new))) }
     ensures read { IsErrOf result Fault.ReadFault → Rose (S.faults source.old) (S.faults source.new) }
     ensures unrefused { IsErrOf result Fault.ReadFault → Given (S.left source.old) (S.left source.new) IsUnrefused }
     ensures write { IsErrOf result Fault.WriteFault → Rose (T.faults out.old) (T.faults out.new) }
     ensures cut { IsErrOf result Fault.WriteFault
         → Given (S.left source.old) (S.left source.new) (CutShort (W.is_text task.now) (T.holds out.old) (T.holds out.new)) }
-    ensures bad { (bad : Bad) → IsErrOf result (Fault.Bad bad) → Given (S.left source.old) (S.left source.new) (λ given rest. HoldsRefusal given rest bad) }
+    ensures bad { (bad : Bad) → IsErrOf result (Fault.Bad bad)
+        → Given (S.left source.old) (S.left source.new) (λ given rest. HoldsRefusal given rest bad) }
     ensures accepted { OnOk result (Given (S.left source.old) (S.left source.new) IsAccepted) }
     ensures accepted_cut { IsErrOf result Fault.WriteFault → Given (S.left source.old) (S.left source.new) IsAccepted }
     ensures untouched { IsErr result → (IsErrOf result Fault.WriteFault → ⊥) → out.new ≡ out.old }

@@ -66,7 +66,8 @@ pub fn octo<R: Threads + Sync, S: Source, T: Sink, E: Sink>(
 ) -> Status
     // Usage, exactly where the words aren't in the grammar. Nothing is read.
     ensures usage { result ≡ Status.Usage → (command : Command) → Gives (map string_bytes words.now) command → ⊥ }
-    ensures grammar { ((command : Command) → Gives (map string_bytes words.now) command → ⊥) → (result ≡ Status.Usage) ⊎ (result ≡ Status.NoMemory) }
+    ensures grammar { ((command : Command) → Gives (map string_bytes words.now) command → ⊥)
+        → (result ≡ Status.Usage) ⊎ (result ≡ Status.NoMemory) }
     ensures unread { result ≡ Status.Usage → (source.new ≡ source.old) × (out.new ≡ out.old) }
     ensures front { (given : List ℕ) × (S.left source.old ≡ behind given (S.left source.new)) }
     ensures done { result ≡ Status.Done → (command : Command) → Gives (map string_bytes words.now) command
@@ -78,18 +79,21 @@ pub fn octo<R: Threads + Sync, S: Source, T: Sink, E: Sink>(
     ensures cut { result ≡ Status.WriteFault → (command : Command) → Gives (map string_bytes words.now) command
         → GivenFor command (S.left source.old) (S.left source.new) (CutShort (HasText command) (T.holds out.old) (T.holds out.new)) }
     // A capture is refused exactly by what stands first in its bytes.
-    ensures bad { (result ≡ Status.BadCapture) ⊎ (result ≡ Status.TooMany) → (command : Command) → Gives (map string_bytes words.now) command
-        → (bad : Bad) × (result ≡ status_of_bad bad)
+    ensures bad { (result ≡ Status.BadCapture) ⊎ (result ≡ Status.TooMany)
+        → (command : Command) → Gives (map string_bytes words.now) command → (bad : Bad) × (result ≡ status_of_bad bad)
         × GivenFor command (S.left source.old) (S.left source.new) (λ given rest. HoldsRefusal given rest bad)
         × TellsLine (E.holds err.old) (E.holds err.new) (E.faults err.old) (E.faults err.new) (fault_line (Fault.Bad bad)) }
-    ensures accepted { (result ≡ Status.Done) ⊎ (result ≡ Status.WriteFault) → (command : Command) → Gives (map string_bytes words.now) command
+    ensures accepted { (result ≡ Status.Done) ⊎ (result ≡ Status.WriteFault)
+        → (command : Command) → Gives (map string_bytes words.now) command
         → GivenFor command (S.left source.old) (S.left source.new) IsAccepted }
     ensures told { result ≢ Status.Done
         → IsTold (side (E.holds err.old) (E.faults err.old)) (side (E.holds err.new) (E.faults err.new)) result }
     ensures quiet { result ≡ Status.Done → err.new ≡ err.old }
     ensures untouched { result ≢ Status.Done → result ≢ Status.WriteFault → out.new ≡ out.old }
-    ensures generated { (records start : ℕ) (o : Options) → Gives (map string_bytes words.now) (Command.Load records start o) → source.new ≡ source.old }
-    ensures unfailed { (records start : ℕ) (o : Options) → Gives (map string_bytes words.now) (Command.Load records start o) → result ≢ Status.ReadFault }
+    ensures generated { (records start : ℕ) (o : Options) → Gives (map string_bytes words.now) (Command.Load records start o)
+        → source.new ≡ source.old }
+    ensures unfailed { (records start : ℕ) (o : Options) → Gives (map string_bytes words.now) (Command.Load records start o)
+        → result ≢ Status.ReadFault }
     ensures never { result ≢ Status.Differs }
 {
     match read_words(alloc, words) {

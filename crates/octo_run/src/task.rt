@@ -35,7 +35,8 @@ pub trait Task {
         requires ready { ready self.now }
         requires packets { length capture.now.packets.items ≤ 16777216 }
         ensures fits { IfOk result (fits self.now) }
-        ensures tells { IfOk result (λ results. (bytes : List ℕ) → IsLoaded (amount self.now) bytes capture.now → is_text self.now bytes (text self.now results)) };
+        ensures tells { IfOk result (λ results. (bytes : List ℕ) → IsLoaded (amount self.now) bytes capture.now
+            → is_text self.now bytes (text self.now results)) };
 
     fn write<T: Sink>(&self, out: &mut T, results: &Self::Results) -> Result<(), Failed>
         requires { fits self.now results.now }
