@@ -23,9 +23,11 @@ pub fn whole_run<R: Threads + Sync>(
     out: &mut MemSink,
     err: &mut MemSink,
 ) -> Result<Status, NoMemory>
-    ensures run { IfOk result (λ status. status ≡ Status.Done → (o : Options) → Gives (map string_bytes words.now) (Command.Run o) → o.mode ≡ Mode.Rounds
+    ensures run { IfOk result (λ status. status ≡ Status.Done
+        → (o : Options) → Gives (map string_bytes words.now) (Command.Run o) → o.mode ≡ Mode.Rounds
         → (text : List ℕ) → IsRunText o bytes.now text → out.new.held ≡ out.old.held ++ text) }
-    ensures load { IfOk result (λ status. status ≡ Status.Done → (n k : ℕ) → (o : Options) → Gives (map string_bytes words.now) (Command.Load n k o) → o.mode ≡ Mode.Rounds
+    ensures load { IfOk result (λ status. status ≡ Status.Done
+        → (n k : ℕ) → (o : Options) → Gives (map string_bytes words.now) (Command.Load n k o) → o.mode ≡ Mode.Rounds
         → (text : List ℕ) → IsRunText o (generated n k) text → out.new.held ≡ out.old.held ++ text) }
 {
     one_text();
