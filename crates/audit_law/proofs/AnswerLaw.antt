@@ -168,8 +168,8 @@ module _ (o : Options) (j : Journal) (messages : List (List Push)) (workers : le
       | inr below ↦
           let before = onward i m (omega (arith, below)) (omega (arith, lt)) (λ n from to. same n from (omega (arith, to))) in
           let step : NoFurther (at m).front (at (suc m)).front =
-              subst (λ (n : ℕ). NoFurther (at n).front (at (suc m)).front) (let e : suc m - 1 ≡ m = omega arith in e)
-              ((all (suc m) lt).rises (later_number j.answers o.readers o.asks form.places i (suc m) below lt (same (suc m) low (omega arith)))) in
+          subst (λ (n : ℕ). NoFurther (at n).front (at (suc m)).front) (let e : suc m - 1 ≡ m = omega arith in e)
+          ((all (suc m) lt).rises (later_number j.answers o.readers o.asks form.places i (suc m) below lt (same (suc m) low (omega arith)))) in
           λ w. omega (arith, before w, step w)
     ]
 
@@ -192,7 +192,7 @@ module _ (o : Options) (j : Journal) (messages : List (List Push)) (workers : le
           let numbers : (at has.0).number ≤ (at has'.0).number = omega (arith, ap (λ (x : AnswerParts). x.number) is, ap (λ (x : AnswerParts). x.number) is', le) in
           let from = by_number j.answers o.readers o.asks form.places has.0 has'.0 has.1 has'.1 readers numbers in
           let go : NoFurther (at has.0).front (at has'.0).front =
-              onward has.0 has'.0 from has'.1 (λ n low high. between j.answers o.readers o.asks form.places has.0 n has'.0 low high has'.1 readers) in
+          onward has.0 has'.0 from has'.1 (λ n low high. between j.answers o.readers o.asks form.places has.0 n has'.0 low high has'.1 readers) in
           subst (λ (x : AnswerParts). NoFurther x.front b.front) is (subst (λ (x : AnswerParts). NoFurther (at has.0).front x.front) is' go);
       of_any = λ a b has has'.
           let is = found a has.0 has.1 has.2 in

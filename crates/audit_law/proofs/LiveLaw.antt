@@ -201,7 +201,7 @@ module _ (o : Options) (j : Journal) (messages : List (List Push)) where
             (for_count_min o.sketch (int_le o.least (estimate_on_all o messages (key i))) (hold_head _ _ fourth) same);
         alone = λ lone.
             let both = and_parts (nat_lt i (length (live_alone o messages))) (same_key (key_at (live_alone o messages) i) (key i))
-                (of_not (is_lone messages) (nat_lt i (length (live_alone o messages)) && same_key (key_at (live_alone o messages) i) (key i)) (hold_head _ _ fifth) lone) in
+            (of_not (is_lone messages) (nat_lt i (length (live_alone o messages)) && same_key (key_at (live_alone o messages) i) (key i)) (hold_head _ _ fifth) lone) in
             (ltb-true i (length (live_alone o messages)) both.0, same_key-eq (key_at (live_alone o messages) i) (key i) both.1);
       }
 
@@ -305,9 +305,10 @@ module _ (o : Options) (j : Journal) (messages : List (List Push)) where
     unfolding is_lone live_alone missed_alone live_keys missed_keys live_of missed_of
     alone_by zero is most =
         let none : all_of messages ≡ [] = no_sender messages is in
-        let few : j.missed ≡ 0 = omega (arith, missed.few, ap (λ (t : List Push). length (not_live j.live t)) none) in
-        (none_live (inr none) ∙ sym (ap (live_keys (rules_in o) o.shape o.heavy o.least) none ∙ no_live (rules_in o).keyed),
-        few ∙ sym (ap (missed_keys (rules_in o) o.shape o.heavy o.least) none ∙ no_missed (rules_in o).keyed))
+        let few : j.missed ≡ 0 = omega (arith, missed.few, ap (λ (t : List Push). length (not_live j.live t)) none) in (
+          none_live (inr none) ∙ sym (ap (live_keys (rules_in o) o.shape o.heavy o.least) none ∙ no_live (rules_in o).keyed),
+          few ∙ sym (ap (missed_keys (rules_in o) o.shape o.heavy o.least) none ∙ no_missed (rules_in o).keyed),
+        )
       where
         no_live : (b : Bool) → (if b then live_of o.heavy o.least (notes_of (rules_in o) o.shape []) else []) ≡ []
         no_live true = ap (live_of o.heavy o.least) (notes_none (rules_in o) o.shape) ∙ take_none o.heavy
@@ -348,10 +349,10 @@ module _ (o : Options) (j : Journal) (messages : List (List Push)) where
   unfolding is_lone live_alone missed_alone is_sent_key
   live_tested h =
       let of_lone : is_lone messages ≡ true → (j.live ≡ live_alone o messages) × (j.missed ≡ missed_alone o messages) =
-          λ (lone : is_lone messages ≡ true).
-          let one = one_sender messages (eqb-true (count_by some_sent messages) 1 lone) in
-          let is = h.alone one.0 one.1 in
-          (is.0 ∙ sym (ap (live_keys (rules_in o) o.shape o.heavy o.least) one.1), is.1 ∙ sym (ap (missed_keys (rules_in o) o.shape o.heavy o.least) one.1)) in
+      λ (lone : is_lone messages ≡ true).
+      let one = one_sender messages (eqb-true (count_by some_sent messages) 1 lone) in
+      let is = h.alone one.0 one.1 in
+      (is.0 ∙ sym (ap (live_keys (rules_in o) o.shape o.heavy o.least) one.1), is.1 ∙ sym (ap (missed_keys (rules_in o) o.shape o.heavy o.least) one.1)) in
       hold_append (flat_map (live_tests o j messages) (range_with_len 0 (length j.live))) (missed_tests o j messages)
       (hold_range (live_tests o j messages) 0 (length j.live)
       (λ i low high.

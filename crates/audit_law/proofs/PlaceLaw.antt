@@ -26,7 +26,7 @@ place_is asks first (suc readers) i lt =
     elim (cases_lt i asks) [
       | inl inside ↦
           let here : get_or (row ++ rest) i (0, 0) ≡ (first, i) =
-              get_or_append_left row rest (0, 0) i (omega (arith, inside, long)) ∙ get_or-map-range_with_len (λ n. (first, n)) 0 asks i i (0, 0) inside (omega arith) in
+          get_or_append_left row rest (0, 0) i (omega (arith, inside, long)) ∙ get_or-map-range_with_len (λ n. (first, n)) 0 asks i i (0, 0) inside (omega arith) in
           subst (λ (p : ℕ × ℕ). (p.1 < asks) × (first * asks + i ≡ p.0 * asks + p.1)) (sym here) (inside, refl)
       | inr past ↦
           let there : get_or (row ++ rest) i (0, 0) ≡ get_or rest (i - asks) (0, 0) = get_or-append_right row rest asks i (0, 0) long past in
@@ -49,7 +49,7 @@ module _ (answers : List AnswerParts) (readers asks : ℕ) (places : places_of a
   pub place_of : (i : ℕ) → i < length answers → ((at i).number < asks) × (i ≡ (at i).reader * asks + (at i).number)
   place_of i lt =
       let place : get_or (places_by readers asks) i (0, 0) ≡ ((at i).reader, (at i).number) =
-          sym (ap (λ (t : List (ℕ × ℕ)). get_or t i (0, 0)) places) ∙ get_or-map (λ a. (a.reader, a.number)) answers i no_answer (0, 0) lt in
+      sym (ap (λ (t : List (ℕ × ℕ)). get_or t i (0, 0)) places) ∙ get_or-map (λ a. (a.reader, a.number)) answers i no_answer (0, 0) lt in
       let long : length (places_of answers) ≡ length answers = length-map answers (λ a. (a.reader, a.number)) in
       let within : i < length (places_by readers asks) = omega (arith, lt, long, ap length places) in
       let is = place_is asks 0 readers i within in

@@ -90,14 +90,16 @@ module _ (packets : List Packet) (o : Options) (j : Journal) (w : ℕ) where
       let S : List Push = given_messages (rules_in o) w o.threshold U F in
       let second = hold_tail _ _ h in
       let each = hold_all (refused_tests o U S (refused_line j w)) F (hold_tail _ _ second) in
-      let all : All (MayBe o U S) F = λ k d lt. may_be o U S (refused_line j w) (get_or F k d) (each k d lt) in
-      (record {
-        rising = rising;
-        within = λ k d lt. (all k d lt).within;
-        far = λ k is. (refused_has (MayBe o U S) F k all is).far;
-        full_lane = λ k is. (refused_has (MayBe o U S) F k all is).full_lane;
-        waiting = none_waits o.full F (hold_head _ _ second);
-      }, eqb-true (get_or j.pushes w 0) (length S) (hold_head _ _ h))
+      let all : All (MayBe o U S) F = λ k d lt. may_be o U S (refused_line j w) (get_or F k d) (each k d lt) in (
+        record {
+          rising = rising;
+          within = λ k d lt. (all k d lt).within;
+          far = λ k is. (refused_has (MayBe o U S) F k all is).far;
+          full_lane = λ k is. (refused_has (MayBe o U S) F k all is).full_lane;
+          waiting = none_waits o.full F (hold_head _ _ second);
+        },
+        eqb-true (get_or j.pushes w 0) (length S) (hold_head _ _ h),
+      )
 
   tested : Fitting → Hold (worker_tests packets o j w)
   unfolding worker_tests all_refused_tests given_by
@@ -151,6 +153,7 @@ workers_tested packets o j h =
     (λ w low lt.
     let within : w < o.workers = omega (arith, lt) in
     let mine = h.each w within in
-    tested packets o j w
-    ((lawful_given (rules_in o) w o.threshold o.lane o.full (updates_by_options packets o w) (sent_by (all_given packets o j) w) (refused_by j w) mine.lawful).1,
-    mine.pushes ∙ ap length (given_at packets o j w within)))
+    tested packets o j w (
+      (lawful_given (rules_in o) w o.threshold o.lane o.full (updates_by_options packets o w) (sent_by (all_given packets o j) w) (refused_by j w) mine.lawful).1,
+      mine.pushes ∙ ap length (given_at packets o j w within),
+    ))

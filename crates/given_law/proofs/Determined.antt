@@ -102,10 +102,10 @@ sent_by : (r : Rules) (w T L : ℕ) (full : Full) (U : List Update) (S : List Pu
 sent_by r w T L full U S F h n lt true is =
     let x = before_sent r T U S F h.pushes n is in
     let named : IsNamed w U x.0 = last_has (IsNamed w U) (messages_before n S) x.0
-        (subst (All (IsNamed w U)) x.1 (All-filter (λ m. nat_lt m.update (n + 1)) (IsNamed w U) S h.named)) in
+    (subst (All (IsNamed w U)) x.1 (All-filter (λ m. nat_lt m.update (n + 1)) (IsNamed w U) S h.named)) in
     let free : is_refused n F ≡ false = h.pushes.apart n is in
     let far : T ≤ distance_at r U (messages_before n S) n =
-        subst (λ (d : ℕ). T ≤ d) (distance_by_before r U S n) (h.pushes.reached n lt (ap (λ (b : Bool). b || is_refused n F) is)) in
+    subst (λ (d : ℕ). T ≤ d) (distance_by_before r U S n) (h.pushes.reached n lt (ap (λ (b : Bool). b || is_refused n F) is)) in
     x.1
     ∙ ap (λ (m : Push). messages_before n S ++ m ∷ []) (message_is r w U S x.0 n x.2 named x.3)
     ∙ sym (sent_step r w T U F n (messages_before n S) free far)
@@ -137,17 +137,20 @@ refused_below n k F all is = elim (cases_lt k n) [
 pub lawful_given : (r : Rules) (w T L : ℕ) (full : Full) (U : List Update) (S : List Push) (F : List ℕ) → LawfulPushes r w T L full U S F
     → (S ≡ given_messages r w T U F) × MayRefuse r w T L full U F
 lawful_given r w T L full U S F h =
-    let is = lawful_is r w T L full U S F h in
-    (is, record {
-      rising = h.pushes.refused_rising;
-      within = h.pushes.refused_within;
-      far = λ k refused. subst (λ (t : List Push). T ≤ distance_at r U t k) is (h.pushes.reached k (below_all k refused) (either k refused));
-      full_lane = λ k refused. subst (λ (t : List Push). L ≤ length (messages_before k t)) is (h.full_lane k refused);
-      waiting = h.waiting;
-    })
+    let is = lawful_is r w T L full U S F h in (
+      is,
+      record {
+        rising = h.pushes.refused_rising;
+        within = h.pushes.refused_within;
+        far = λ k refused. subst (λ (t : List Push). T ≤ distance_at r U t k) is (h.pushes.reached k (below_all k refused) (either k refused));
+        full_lane = λ k refused. subst (λ (t : List Push). L ≤ length (messages_before k t)) is (h.full_lane k refused);
+        waiting = h.waiting;
+      },
+    )
   where
     below_all : (k : ℕ) → is_refused k F ≡ true → k < length U
     below_all k refused = refused_below (length U) k F h.pushes.refused_within refused
+
     either : (k : ℕ) → is_refused k F ≡ true → (is_sent k S || is_refused k F) ≡ true
     either k refused = rw refused (elim (is_sent k S) as (λ b. (b || true) ≡ true) [ true ↦ refl | false ↦ refl ])
 
@@ -279,6 +282,7 @@ module _ (r : Rules) (w T : ℕ) (U : List Update) (F : List ℕ) where
           let high : nat_lt (distance_at r U (given_before r w T U F k) k) T ≡ false = reached_bits (is_sent k (given_before r w T U F (length U))) (is_refused k F) (nat_lt (distance_at r U (given_before r w T U F k) k) T) (sent_is (length U) k lt) is free in
           let back = distance_back (length U) k (omega (arith, lt)) in
           subst (λ (d : ℕ). T ≤ d) (sym back) (grind arith)
+
       apart_at : (k : ℕ) → is_sent k (given_before r w T U F (length U)) ≡ true → (k < length U) ⊎ (length U ≤ k) → is_refused k F ≡ false
       apart_at k sent (inl lt) = apart_bits (is_sent k (given_before r w T U F (length U))) (is_refused k F) (nat_lt (distance_at r U (given_before r w T U F k) k) T) (sent_is (length U) k lt) sent
       apart_at k sent (inr past) =
@@ -313,7 +317,7 @@ given_before_more r w T U u F (suc n) le =
 pub given_push : (r : Rules) (w T : ℕ) (U : List Update) (u : Update) (F : List ℕ) (S : List Push) → S ≡ given_messages r w T U F
     → given_messages r w T (U ++ u ∷ []) F
     ≡ (if nat_lt (r.distance (told_of r u.cell S) (whole_of r u.cell (U ++ u ∷ []))) T || is_refused (length U) F then S
-       else S ++ push_of w u.packet (length U) u.key u.cell (r.gap (told_of r u.cell S) (whole_of r u.cell (U ++ u ∷ []))) ∷ [])
+    else S ++ push_of w u.packet (length U) u.key u.cell (r.gap (told_of r u.cell S) (whole_of r u.cell (U ++ u ∷ []))) ∷ [])
 unfolding given_messages with_next message_of
 given_push r w T U u F S is =
     let long : length (U ++ u ∷ []) ≡ suc (length U) = length_push U u ∙ add-one (length U) in
@@ -322,8 +326,8 @@ given_push r w T U u F S is =
     let told_is : told r S (length U) u.cell ≡ told_of r u.cell S = told_all r S (length U) u.cell within in
     let whole_is : whole r (U ++ u ∷ []) (length U + 1) u.cell ≡ whole_of r u.cell (U ++ u ∷ []) = whole_all r (U ++ u ∷ []) (length U + 1) u.cell (omega (arith, length_push U u)) in
     let message : message_of r w (U ++ u ∷ []) S (length U) ≡ push_of w u.packet (length U) u.key u.cell (r.gap (told_of r u.cell S) (whole_of r u.cell (U ++ u ∷ []))) =
-        ap (λ (x : Update). push_of w x.packet (length U) x.key x.cell (r.gap (told r S (length U) x.cell) (whole r (U ++ u ∷ []) (length U + 1) x.cell))) (update_last U u)
-        ∙ ap₂ (λ (y z : ℤ). push_of w u.packet (length U) u.key u.cell (r.gap y z)) told_is whole_is in
+    ap (λ (x : Update). push_of w x.packet (length U) x.key x.cell (r.gap (told r S (length U) x.cell) (whole r (U ++ u ∷ []) (length U + 1) x.cell))) (update_last U u)
+    ∙ ap₂ (λ (y z : ℤ). push_of w u.packet (length U) u.key u.cell (r.gap y z)) told_is whole_is in
     ap (given_before r w T (U ++ u ∷ []) F) long
     ∙ ap (with_next r w T (U ++ u ∷ []) F (length U)) (given_before_more r w T U u F (length U) (omega arith) ∙ sym is)
     ∙ ap₂ (λ (d : ℕ) (m : Push). if nat_lt d T || is_refused (length U) F then S else S ++ m ∷ []) dist message

@@ -1,6 +1,6 @@
 -- One update more, counted again.
-use Rattle.std.proofs.Common.{◌≡◌, ◌<◌, ◌≤◌, ℕ, ℤ, ◌+◌, ◌-◌, ◌||◌, List, [], ◌∷◌, ◌++◌, length, Bool, true, false, nat_lt, if◌then◌else◌, refl, sym, ap, ap₂, ◌∙◌, subst, arith}
-use Rattle.std.specs.Prelude.{Option, Some, None, MatchOption}
+use Rattle.std.proofs.Common.{◌≡◌, ◌<◌, ◌≤◌, ℕ, ℤ, ◌-◌, ◌||◌, List, [], ◌∷◌, ◌++◌, length, Bool, true, false, nat_lt, if◌then◌else◌, refl, sym, ap, ap₂, ◌∙◌, subst, arith}
+use Rattle.std.specs.Prelude.{Option, Some, MatchOption}
 use Rattle.std.proofs.lemmas.List.{length_push}
 use Rattle.packet_key.specs.declared.key.FlowKey.{FlowKey}
 use Rattle.hash_rows.specs.declared.shape.Update.{Update}
@@ -80,8 +80,8 @@ module _ (r : Rules) (w T : ℕ) (F : List ℕ) (U : List Update) (u : Update) (
     sent_here mid new due stood h =
         let number : mid.counted - 1 ≡ length U = omega (arith, stood.all_counted, length_push U u) in
         let at = subst (λ (o : Option ℕ). MatchOption o (StandsFor stands r new (U ++ u ∷ []) S kept)
-            (λ cell. StandsFor stands r new (U ++ u ∷ []) (S ++ push_of w u.packet (mid.counted - 1) u.key cell (r.gap (told_of r cell S) (whole_of r cell (U ++ u ∷ []))) ∷ []) kept)) due
-            (h w u.packet u.key (U ++ u ∷ []) S kept stood) in
+        (λ cell. StandsFor stands r new (U ++ u ∷ []) (S ++ push_of w u.packet (mid.counted - 1) u.key cell (r.gap (told_of r cell S) (whole_of r cell (U ++ u ∷ []))) ∷ []) kept)) due
+        (h w u.packet u.key (U ++ u ∷ []) S kept stood) in
         subst (λ (n : ℕ). StandsFor stands r new (U ++ u ∷ []) (S ++ push_of w u.packet n u.key u.cell amount_here ∷ []) kept) number at
 
   pub message_here : (worker number : ℕ) (amount : ℤ) → worker ≡ w → number ≡ length U → amount ≡ amount_here

@@ -1,5 +1,5 @@
 -- What a worker's updates, counted again, stand for.
-use Rattle.std.specs.Prelude.{◌≡◌, ◌<◌, ◌≤◌, ℕ, ℤ, List, Option, None, Some, Bool, true, length}
+use Rattle.std.specs.Prelude.{◌≡◌, ◌<◌, ◌≤◌, ℕ, ℤ, List, Option, None, Some, true, length}
 use Rattle.hash_rows.specs.declared.shape.Update.{Update}
 use Rattle.hash_rows.specs.Rules.{Rules}
 use Rattle.push_rule.specs.Stands.{StandsFor}

@@ -65,7 +65,14 @@ pub struct Replay<K: Kind> {
 
 impl<K: Kind> Replay<K> {
     /// A worker that has counted nothing.
-    pub fn new(alloc: Global, worker: u32, cells: u32, threshold: u64, updates: u32, lane: u32) -> Result<Replay<K>, NoMemory>
+    pub fn new(
+        alloc: Global,
+        worker: u32,
+        cells: u32,
+        threshold: u64,
+        updates: u32,
+        lane: u32,
+    ) -> Result<Replay<K>, NoMemory>
         requires { 0 < threshold }
         ensures replays { (refused : List ℕ) → IfOk result (Replays K.stands K.rules worker threshold refused []) }
         ensures idle { IfOk result (λ replay. replay.sketch.due ≡ None) }

@@ -33,10 +33,23 @@ pub fn replay_worker<K: Kind>(
     let shape = options.shape;
     let updates = shape.rows * positions.len();
     let cells = shape.rows * shape.columns;
-    let mut replay = Replay::new(alloc, worker, cells, options.threshold, updates, options.lane)?;
+    let mut replay = Replay::new(
+        alloc,
+        worker,
+        cells,
+        options.threshold,
+        updates,
+        options.lane,
+    )?;
     for place in 0..positions.len() {
         let position = positions.at(place);
-        count_packet(&mut replay, &packets[position as usize], position, &shape, refused)?;
+        count_packet(
+            &mut replay,
+            &packets[position as usize],
+            position,
+            &shape,
+            refused,
+        )?;
     }
     Ok(replay)
 }

@@ -1,4 +1,4 @@
-use Rattle.std.proofs.Common.{rules, ◌≡◌, ◌∙◌, ◌<◌, ◌≤◌, ◌^◌, ◌+◌, ◌++◌, ◌∷◌, [], ℕ, ℤ, List, Bool, true, false, length, map, get_or, sym, ap, ap₂, subst, arith, w64, to_z, of_z}
+use Rattle.std.proofs.Common.{rules, ◌≡◌, ◌∙◌, ◌<◌, ◌^◌, ◌++◌, ◌∷◌, [], ℕ, ℤ, List, true, false, length, map, get_or, sym, ap, ap₂, subst, arith, w64, to_z, of_z}
 use Rattle.std.specs.List.{range_with_len}
 use Rattle.std.proofs.lemmas.Int.{to_z-of_z}
 use mir.Val.{SFits}
@@ -40,7 +40,7 @@ loop-row-preserved g c =
           let U : List Update = updates ++ map f (range_with_len 0 row) in
           let number : c.counted.result ≡ length U = c.counted.ensures ∙ now.replays.sketch.all_counted in
           let refused : c.is_set-refused.result ≡ is_refused (length U) F =
-              c.is_set-refused.ensures ∙ ap (λ (n : ℕ). get_or c.args.refused.now n false) number ∙ refused_bit c.args.refused.now (length U) in
+          c.is_set-refused.ensures ∙ ap (λ (n : ℕ). get_or c.args.refused.now n false) number ∙ refused_bit c.args.refused.now (length U) in
           let step : Tells g.K.Kind.stands r w T F (U ++ update c.cell_in_row.result (to_z w64 (of_z w64 c.value_in_row.result)) ∷ []) c.count.new.self = record {
             replays = c.in_ok-count.ensures.replays w T F U now.replays refused;
             first = c.in_ok-count.ensures.watches w T F U now.replays refused now.first;

@@ -1,4 +1,4 @@
-use Rattle.std.proofs.Common.{rules, ◌≡◌, ◌∙◌, ◌<◌, ◌≤◌, ◌+◌, ◌*◌, ◌++◌, [], ℕ, List, take, length, get_or, refl, sym, ap, subst, arith}
+use Rattle.std.proofs.Common.{◌≡◌, ◌∙◌, ◌<◌, ◌+◌, ◌*◌, ◌++◌, [], ℕ, List, take, length, sym, ap, subst, arith}
 use Rattle.std.specs.Prelude.{Option}
 use Rattle.hash_rows.specs.Marks.{marked}
 use Rattle.hash_rows.specs.declared.shape.Update.{Update}
@@ -37,7 +37,7 @@ loop-place-preserved g c =
     let U : List Update = updates_of r shape c.args.packets.now (take place c.args.positions.now) in
     let step = c.in_ok-count_packet.ensures.tells c.args.worker c.args.options.now.threshold U inv.tells in
     let more : U ++ updates_at r shape c.args.packets.now c.at-position.result ≡ updates_of r shape c.args.packets.now (take (place + 1) c.args.positions.now) =
-        ap (λ (i : ℕ). U ++ updates_at r shape c.args.packets.now i) c.at-position.ensures ∙ packets_more r shape c.args.packets.now c.args.positions.now place 0 lt in
+    ap (λ (i : ℕ). U ++ updates_at r shape c.args.packets.now i) c.at-position.ensures ∙ packets_more r shape c.args.packets.now c.args.positions.now place 0 lt in
     let next : shape.rows * (place + 1) ≡ shape.rows * place + shape.rows = grind arith in
     record {
       tells = subst (λ (us : List Update). Tells g.K.Kind.stands r c.args.worker c.args.options.now.threshold (marked c.args.refused.now) us c.count_packet.new.replay) more step;

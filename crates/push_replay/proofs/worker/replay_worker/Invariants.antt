@@ -1,9 +1,9 @@
-use Rattle.std.proofs.Common.{◌≡◌, ◌*◌, ◌++◌, ℕ, List, length, take}
+use Rattle.std.proofs.Common.{◌≡◌, ◌*◌, length, take}
 use Rattle.std.specs.Prelude.{None}
 use Rattle.hash_rows.specs.Marks.{marked}
 use Rattle.hash_rows.specs.Shapes.{size_of}
 use Rattle.push_history.specs.Updates.{updates_of}
-use Rattle.push_replay.specs.Replays.{KeepsSize, Tells}
+use Rattle.push_replay.specs.Replays.{Tells}
 use Rattle.push_replay.proofs.worker.replay_worker.Given as goal
 
 abbrev pub invariant-loop-place : goal.invariant-loop-place

@@ -1,12 +1,11 @@
-use Rattle.std.proofs.Common.{rules, ◌≡◌, ◌∙◌, sym, ap, subst, refl, w64, arith, true, false, List, ◌++◌, ◌∷◌, []}
+use Rattle.std.proofs.Common.{rules, ◌∙◌, sym, ap, subst, w64, List, ◌++◌, ◌∷◌, []}
 use Rattle.std.specs.Prelude.{Some, None}
 use Rattle.std.proofs.lemmas.Int.{to_z-of_z}
 use mir.Val.{SFits}
 use Rattle.hash_rows.specs.declared.shape.Push.{Push}
 use Rattle.push_rule.proofs.Standing.{whole_own}
 use Rattle.push_rule.specs.Stands.{StandsFor}
-use Rattle.push_replay.specs.Replays.{Replays}
-use Rattle.push_replay.proofs.Replayed.{after_quiet, after_refused, after_sent, owes_here, counted_here, sent_here, message_here, amount_here}
+use Rattle.push_replay.proofs.Replayed.{after_quiet, after_refused, after_sent, owes_here, counted_here, sent_here, message_here}
 use Rattle.push_replay.specs.Replays.{first_of}
 use Rattle.push_replay.proofs.Watched.{quiet, none_step, refused_step}
 use Rattle.push_replay.proofs.replay.Replay.count.Goals as goal

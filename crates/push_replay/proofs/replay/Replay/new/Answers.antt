@@ -1,7 +1,6 @@
-use Rattle.std.proofs.Common.{◌≡◌, ◌∙◌, sym, ap, subst, refl, List, []}
+use Rattle.std.proofs.Common.{sym, subst, refl, List, []}
 use Rattle.hash_rows.specs.declared.shape.Push.{Push}
 use Rattle.push_rule.specs.Stands.{StandsFor}
-use Rattle.push_replay.specs.Replays.{Replays}
 use Rattle.given_law.specs.Given.{given_messages}
 use Rattle.push_replay.proofs.replay.Replay.new.Goals as goal
 
