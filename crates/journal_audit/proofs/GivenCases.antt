@@ -1,5 +1,5 @@
 -- A worker's updates counted again, by the options and the journal.
-use Rattle.std.proofs.Common.{◌≡◌, ◌*◌, ℕ, List, [], Bool, length, refl, sym, ap, ap₂, ◌∙◌, subst}
+use Rattle.std.proofs.Common.{◌≡◌, ◌*◌, ℕ, List, Bool, length, sym, ap, ap₂, ◌∙◌, subst}
 use Rattle.std.specs.Prelude.{Some, Option, slice_get}
 use Rattle.hash_rows.specs.declared.options.Options.{Options}
 use Rattle.hash_rows.specs.declared.shape.Packet.{Packet}

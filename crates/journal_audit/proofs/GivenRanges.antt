@@ -1,5 +1,5 @@
 -- The tests of one worker after another.
-use Rattle.std.proofs.Common.{◌≡◌, ◌<◌, ◌≤◌, ℕ, zero, suc, ◌+◌, List, [], ◌∷◌, ◌++◌, map, Bool, true, false, refl, sym, ap, ◌∙◌, subst, arith, inl, inr}
+use Rattle.std.proofs.Common.{◌≡◌, ◌<◌, ◌≤◌, ℕ, zero, suc, ◌+◌, List, [], ◌∷◌, ◌++◌, map, true, false, refl, sym, ap, ◌∙◌, subst, arith, inl, inr}
 use Rattle.std.specs.Prelude.{Option, Some, None, is_some}
 use Rattle.std.specs.List.{flat_map, range_with_len}
 use Rattle.std.proofs.Math.Nat.{eq-or-lt_of_le}
@@ -9,7 +9,7 @@ use Rattle.std.specs.Global.{Vec}
 use Rattle.hash_rows.specs.declared.shape.Push.{Push}
 use Rattle.audit_law.specs.declared.failure.Failure.{Failure}
 use Rattle.audit_law.specs.Tests.{Test, first_failing}
-use Rattle.audit_law.proofs.Holding.{Hold, hold_range}
+use Rattle.audit_law.proofs.Holding.{hold_range}
 use Rattle.journal_audit.specs.Readable.{AllHold}
 use Rattle.journal_audit.proofs.Refusals.{failing_front, failing_back}
 

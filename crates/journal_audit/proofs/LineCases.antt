@@ -1,5 +1,5 @@
 -- The lines of a journal, from what was counted.
-use Rattle.std.proofs.Common.{◌≡◌, ◌<◌, ◌+◌, ℕ, List, [], Bool, length, map, get_or, take, refl, sym, ap, ap₂, ◌∙◌, subst, arith}
+use Rattle.std.proofs.Common.{◌≡◌, ◌+◌, ℕ, List, [], Bool, length, map, get_or, take, sym, ap, ap₂, ◌∙◌}
 use Rattle.std.specs.Prelude.{Some, sum, count_by, nat_le, slice_get}
 use Rattle.std.proofs.lemmas.List.{get_or-map, take-map}
 use Rattle.std.proofs.lemmas.Option.{slice_get_within, get_or_from_slice_get}

@@ -1,7 +1,7 @@
 -- Which test of a worker's refused updates fails first.
-use Rattle.std.proofs.Common.{◌≡◌, ◌<◌, ◌≤◌, ℕ, zero, suc, ◌+◌, ◌==◌, ◌||◌, List, [], ◌∷◌, ◌++◌, length, get_or, Bool, true, false, if◌then◌else◌, nat_lt, nat_le, refl, sym, ap, ◌∙◌, subst, arith, ◌⊎◌, inl, inr, true≢false}
+use Rattle.std.proofs.Common.{◌≡◌, ◌<◌, ◌≤◌, ℕ, suc, ◌+◌, ◌==◌, ◌||◌, List, [], ◌∷◌, ◌++◌, length, get_or, Bool, true, false, if◌then◌else◌, nat_lt, nat_le, refl, sym, ap, ◌∙◌, subst, arith, ◌⊎◌, inl, inr, true≢false}
 use Rattle.std.specs.Prelude.{All, Option, Some, None, MatchOption}
-use Rattle.std.specs.List.{flat_map, list_any}
+use Rattle.std.specs.List.{flat_map}
 use Rattle.std.specs.List.Sorted.{IsStrictlyIncreasing}
 use Rattle.std.proofs.lemmas.Bool.{eqb-true, eq-eqb, le-leb, lt-leb, lt-ltb, le-ltb, cases_lt}
 use Rattle.std.proofs.lemmas.List.Kept.{AllPairs-from_increasing}
@@ -13,7 +13,6 @@ use Rattle.push_history.specs.Pushes.{distance_at, is_refused}
 use Rattle.push_history.specs.Told.{messages_before}
 use Rattle.given_law.specs.Given.{given_messages, given_before}
 use Rattle.given_law.proofs.Determined.{before_back, distance_back}
-use Rattle.push_replay.specs.declared.replay.Fault.{Fault}
 use Rattle.push_replay.specs.declared.replay.Fault.TheVariants.{TooNear, TooFew}
 use Rattle.push_replay.specs.Replays.{AreFine, IsFirst, distance_given}
 use Rattle.audit_law.specs.declared.failure.Failure.{Failure}

@@ -1,6 +1,6 @@
 -- Which test of a worker fails first.
-use Rattle.std.proofs.Common.{◌≡◌, ◌≢◌, ◌<◌, ◌≤◌, ℕ, zero, suc, ◌==◌, ◌||◌, List, [], ◌∷◌, length, map, get_or, Bool, true, false, not, if◌then◌else◌, refl, sym, ap, ap₂, ◌∙◌, subst, arith, inl, inr}
-use Rattle.std.specs.Prelude.{Option, Some, None, count_by, slice_get}
+use Rattle.std.proofs.Common.{◌≡◌, ◌≢◌, ◌<◌, ◌≤◌, ℕ, ◌==◌, ◌||◌, List, [], ◌∷◌, length, get_or, Bool, true, false, not, if◌then◌else◌, refl, sym, ap, ap₂, ◌∙◌, subst, arith, inl, inr}
+use Rattle.std.specs.Prelude.{Some, count_by, slice_get}
 use Rattle.std.specs.List.Sorted.{IsStrictlyIncreasing}
 use Rattle.std.proofs.lemmas.Bool.{eq-eqb, ne_eqb, cases_lt}
 use Rattle.std.proofs.lemmas.List.{get_or-map, get_or_past}
@@ -17,7 +17,6 @@ use Rattle.push_history.specs.Pushes.{is_refused}
 use Rattle.push_replay.proofs.Rows.{refused_bit}
 use Rattle.journal_audit.specs.Readable.{NonePast, IsFirstPast}
 use Rattle.octo_text.specs.declared.journal.Journal.{Journal}
-use Rattle.audit_law.specs.declared.failure.Failure.{Failure}
 use Rattle.audit_law.specs.declared.failure.Value.TheVariants.{Number}
 use Rattle.audit_law.specs.LineNumbers.{worker_line}
 use Rattle.audit_law.specs.Tests.{Test, test, first_failing}

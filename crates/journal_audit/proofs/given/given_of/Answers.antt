@@ -1,4 +1,4 @@
-use Rattle.std.proofs.Common.{rules, ◌≡◌, ◌<◌, ◌≤◌, ◌∙◌, ℕ, true, false, sym, ap, subst, arith, true≢false}
+use Rattle.std.proofs.Common.{rules, ◌≡◌, ℕ, true, false, sym, subst, arith}
 use Rattle.std.specs.Prelude.{is_some, map}
 use Rattle.std.specs.List.{range_with_len}
 use Rattle.octo_text.specs.Content.{content_of}

@@ -1,18 +1,7 @@
-use Rattle.std.proofs.Common.{rules, ◌≡◌, ◌<◌, ◌≤◌, ◌*◌, ◌∙◌, ℕ, List, length, refl, sym, ap, subst, arith}
-use Rattle.std.proofs.Math.Nat.{mul-le-mul_right}
+use Rattle.std.proofs.Common.{◌≤◌, ◌*◌, ◌∙◌, ℕ, length, sym, ap, arith}
 use Rattle.std.proofs.lemmas.Nat.{mul-le}
-use Rattle.hash_rows.specs.declared.shape.Push.{Push}
-use Rattle.hash_rows.specs.declared.shape.Update.{Update}
-use Rattle.hash_rows.specs.Rules.{Rules, rules_of}
-use Rattle.hash_rows.specs.Marks.{marked}
-use Rattle.push_history.specs.Journal.{rules_in, updates_by_options}
-use Rattle.push_history.specs.Updates.{updates_of}
-use Rattle.push_history.proofs.Sharing.{updates_len}
-use Rattle.given_law.specs.Given.{given_messages}
-use Rattle.push_replay.specs.Replays.{IsFirst}
+use Rattle.hash_rows.specs.Rules.{rules_of}
 use Rattle.shares.proofs.Sharing.{share_few}
-use Rattle.octo_text.specs.Content.{content_of}
-use Rattle.audit_law.specs.WorkerTests.{given_by, refused_by}
 use Rattle.journal_audit.proofs.GivenCases.{given_is, first_is, updates_are}
 use Rattle.journal_audit.proofs.given.given_worker.Goals as goal
 

@@ -1,4 +1,4 @@
-use Rattle.std.proofs.Common.{◌≡◌, ◌+◌, ◌∙◌, ℕ, map, take, ap}
+use Rattle.std.proofs.Common.{◌+◌, ◌∙◌, ℕ, map, take, ap}
 use Rattle.std.specs.Prelude.{sum}
 use Rattle.hash_rows.specs.Marks.{marked}
 use Rattle.audit_law.specs.LineNumbers.{lines_of_worker}

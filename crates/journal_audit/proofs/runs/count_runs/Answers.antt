@@ -1,4 +1,4 @@
-use Rattle.std.proofs.Common.{◌≡◌, ◌-◌, ◌+◌, ◌<◌, ◌∷◌, [], ℕ, List, length, ap, sym, subst, ◌∙◌, arith}
+use Rattle.std.proofs.Common.{◌≡◌, ◌-◌, ◌<◌, ◌∷◌, ℕ, length, ap, arith}
 use Rattle.hash_rows.specs.Marks.{marked}
 use Rattle.octo_text.specs.Runs.{runs_of}
 use Rattle.octo_text.proofs.RunLemmas.{marked_behind, marked_clear, next_run, past_set}

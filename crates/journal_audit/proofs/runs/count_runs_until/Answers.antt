@@ -1,5 +1,5 @@
-use Rattle.std.proofs.Common.{◌≡◌, ◌-◌, ◌+◌, ◌<◌, ◌∷◌, [], ℕ, List, length, ap, sym, subst, ◌∙◌, arith}
-use Rattle.std.specs.Prelude.{count_by, nat_le, cond}
+use Rattle.std.proofs.Common.{◌≡◌, ◌-◌, ◌<◌, ◌∷◌, ℕ, length, ap, arith}
+use Rattle.std.specs.Prelude.{count_by, nat_le}
 use Rattle.journal_audit.proofs.Counting.{one_counted}
 use Rattle.hash_rows.specs.Marks.{marked}
 use Rattle.octo_text.specs.Runs.{runs_of}

@@ -1,4 +1,4 @@
-use Rattle.std.proofs.Common.{◌≡◌, ◌∙◌, ℕ, sym, ap, subst}
+use Rattle.std.proofs.Common.{◌∙◌, ℕ, sym, ap, subst}
 use Rattle.std.specs.Prelude.{Option, Some}
 use Rattle.push_history.specs.Journal.{rules_in, updates_by_options}
 use Rattle.push_replay.specs.declared.replay.Fault.{Fault}

@@ -1,4 +1,4 @@
-use Rattle.std.proofs.Common.{rules, ◌≡◌, ◌<◌, ◌≤◌, ◌∙◌, ℕ, length, ap, ap₂, arith}
+use Rattle.std.proofs.Common.{rules, ◌<◌, ◌≤◌, ◌∙◌, ℕ, length, ap, ap₂, arith}
 use Rattle.octo_text.specs.Content.{content_of}
 use Rattle.audit_law.specs.LineNumbers.{refused_line}
 use Rattle.audit_law.specs.declared.failure.Failure.{Failure}

@@ -1,11 +1,9 @@
-use Rattle.std.proofs.Common.{◌≡◌, ◌∙◌, ℕ, sym, ap, subst}
-use Rattle.std.specs.Prelude.{Option, Some}
+use Rattle.std.proofs.Common.{subst}
+use Rattle.std.specs.Prelude.{Option}
 use Rattle.push_history.specs.Journal.{rules_in, updates_by_options}
 use Rattle.push_replay.specs.declared.replay.Fault.{Fault}
 use Rattle.push_replay.specs.Replays.{IsFirst}
 use Rattle.octo_text.specs.Content.{content_of}
-use Rattle.audit_law.specs.declared.failure.Failure.{Failure}
-use Rattle.audit_law.specs.declared.failure.Value.TheVariants.{Number}
 use Rattle.audit_law.specs.LineNumbers.{refused_line}
 use Rattle.audit_law.specs.WorkerTests.{all_refused_tests, given_by, refused_by}
 use Rattle.journal_audit.proofs.Refusals.{past_then}
