@@ -34,36 +34,6 @@ use Rattle.octo_engine.specs.Counts.{HasShare}
 use Rattle.octo_engine.specs.Looks.{AreLooks, layout_in, looks_wanted}
 use Rattle.octo_engine.specs.Rounds.{AreTerms, Suit}
 
-alike : (p q : ℕ → Bool) (a n : ℕ) → ((i : ℕ) → a ≤ i → i < a + n → p i ≡ q i) → filter p (range_with_len a n) ≡ filter q (range_with_len a n)
-alike p q a zero same = refl
-alike p q a (suc n) same =
-    let rest = alike p q (a + 1) n (λ i from to. same i (omega (arith, from)) (omega (arith, to))) in
-    ap₂ (λ b l. if b then a ∷ l else l) (same a (omega arith) (omega arith)) rest
-
--- what a worker owns by key is its share
-pub share_by_key : (o : Options) (packets : List Packet) (w : ℕ) (owners : List ℕ) → o.share ≡ Key → owners ≡ map (worker_of Key o.workers packets) (range_with_len 0 (length packets))
-    → filter (λ i. slice_index_or owners i 0 == w) (range_with_len 0 (length owners)) ≡ share_of_worker o.share o.workers packets w
-unfolding share_of_worker
-share_by_key o packets w owners by is =
-    let f = worker_of Key o.workers packets in
-    let n = length packets in
-    let len : length owners ≡ n = ap length is ∙ length-map-range_with_len f 0 n in
-    ap (λ k. filter (λ i. slice_index_or owners i 0 == w) (range_with_len 0 k)) len
-    ∙ alike (λ i. slice_index_or owners i 0 == w) (λ i. f i == w) 0 n
-    (λ i from to. ap (λ (l : List ℕ). slice_index_or l i 0 == w) is ∙ ap (λ z. z == w) (get_or-map-range_with_len f 0 n i i 0 (omega (arith, to)) (omega arith)))
-    ∙ ap (λ (s : Share). filter (λ i. worker_of s o.workers packets i == w) (range_with_len 0 n)) (sym by)
-
--- what a worker owns in turn is its share
-pub share_in_turn : (o : Options) (packets : List Packet) (w : ℕ) → o.share ≡ Turn → filter (λ i. i % o.workers == w) (range_with_len 0 (length packets)) ≡ share_of_worker o.share o.workers packets w
-unfolding share_of_worker
-share_in_turn o packets w by = ap (λ (s : Share). filter (λ i. worker_of s o.workers packets i == w) (range_with_len 0 (length packets))) (sym by)
-
-owned_within : (p : ℕ → Bool) (n : ℕ) → All (λ i. i < n) (filter p (range_with_len 0 n))
-owned_within p n = All-filter p (λ i. i < n) (range_with_len 0 n) (λ k d lt.
-    let len = length-range_with_len 0 n in
-    let at = get_or-range_with_len 0 n k d (omega (arith, lt, len)) in
-    omega (arith, at, lt, len))
-
 fit_by : (a b c : Bool) → a ≡ true → b ≡ true → c ≡ true → (a && (b && c)) ≡ true
 fit_by a b c x y z = ap₂ (λ u v. u && v) x (ap₂ (λ u v. u && v) y z)
 
@@ -88,18 +58,6 @@ suits r packets o is = record { rules = sym is; threshold = refl; capacity = ref
 
 pub rules_are : (r : Rules) (o : Options) (s : Sketch) → r ≡ rules_of s → o.sketch ≡ s → r ≡ rules_in o
 rules_are r o s is same = is ∙ ap rules_of (sym same)
-
-owned_few : (p : ℕ → Bool) (n : ℕ) → length (filter p (range_with_len 0 n)) ≤ n
-owned_few p n = omega (arith, length-filter p (range_with_len 0 n), count_by-le-length p (range_with_len 0 n), length-range_with_len 0 n)
-
--- a share has places of the packets, no more than there are
-pub share_within : (o : Options) (packets : List Packet) (w : ℕ) → All (λ i. i < length packets) (share_of_worker o.share o.workers packets w)
-unfolding share_of_worker
-share_within o packets w = owned_within (λ i. worker_of o.share o.workers packets i == w) (length packets)
-
-pub share_few : (o : Options) (packets : List Packet) (w : ℕ) → length (share_of_worker o.share o.workers packets w) ≤ length packets
-unfolding share_of_worker
-share_few o packets w = owned_few (λ i. worker_of o.share o.workers packets i == w) (length packets)
 
 -- what holds of each item holds with one more at the end
 pub grown : {A : Type 0} (P : ℕ → A → Type 0) (xs new : List A) (n : ℕ) (x : A) → length xs ≡ n → new ≡ xs ++ x ∷ [] → ((w : ℕ) (d : A) → w < n → P w (get_or xs w d)) → P n x

@@ -2,11 +2,9 @@ pub mod Answering
 pub mod Beginning
 pub mod Looking
 pub mod Outcomes
-pub mod Owning
 pub mod Places
 pub mod Rounding
 pub mod Running
 pub mod Settling
 pub mod Stepping
 pub mod Sums
-pub mod Turns

@@ -1,9 +1,7 @@
 pub mod Answers
 pub mod Counts
 pub mod Looks
-pub mod Owners
 pub mod Parts
-pub mod Positions
 pub mod Residues
 pub mod Rounds
 pub mod Settles

@@ -10,7 +10,7 @@ ghost use Rattle.octo_engine.specs.Parts.{AreEnds, HasRun, IsSound, RanBlock, bl
 
 use crate::counts::count_in_round;
 use crate::part::{BLOCK, Part};
-use crate::positions::Positions;
+use shares::Positions;
 use push_rule::Counter;
 use hash_rows::{Kind, Options, Packet};
 use std::thread::{Threads, for_each_mut};

@@ -7,7 +7,7 @@ ghost use Rattle.push_rule.specs.Counters.{Extends, KeepsSettings};
 ghost use Rattle.push_rule.specs.Keeps.{Keeps};
 ghost use Rattle.octo_engine.specs.Counts.{AreNext, HasCounted, HasMoved, HasShare, IsFit};
 
-use crate::positions::Positions;
+use shares::Positions;
 use push_rule::Counter;
 use hash_rows::{Kind, Options, Packet, Shape, Update, cell_in_row, hash_in_row, key_hash};
 use push_history::Reply;

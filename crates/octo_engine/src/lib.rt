@@ -8,11 +8,9 @@ mod ending;
 mod fold;
 mod looks;
 mod part;
-mod positions;
 mod rounds;
 mod settle;
 mod settled;
 mod setup;
-mod shares;
 
 pub use settled::{Settled, run_rounds};

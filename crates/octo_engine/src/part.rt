@@ -1,4 +1,4 @@
-use crate::positions::Positions;
+use shares::Positions;
 use push_rule::Counter;
 use hash_rows::Kind;
 use listed::Listed;

@@ -7,12 +7,12 @@ ghost use Rattle.push_history.specs.Share.{share_of_worker};
 ghost use Rattle.push_rule.specs.Keeps.{Keeps};
 ghost use Rattle.live_state.specs.Fold.{fresh_state};
 ghost use Rattle.octo_engine.specs.Looks.{layout_in};
-ghost use Rattle.octo_engine.specs.Owners.{AreOwners};
+ghost use Rattle.shares.specs.Owners.{AreOwners};
 ghost use Rattle.octo_engine.specs.Parts.{IsSound, block};
 ghost use Rattle.octo_engine.specs.Rounds.{AreParts, Suit};
 
 use crate::part::{BLOCK, Part};
-use crate::shares::{Owners, amounts_fit, owners_of, positions_of};
+use shares::{Owners, amounts_fit, owners_of, positions_of};
 use push_rule::Counter;
 use flow_base::NoMemory;
 use hash_rows::{Kind, Options, Packet};

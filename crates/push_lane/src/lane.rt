@@ -1,7 +1,7 @@
 //! A lane: one bounded queue of messages.
 ghost use Rattle.std.specs.Prelude.{◌≡◌, ◌<◌, ◌≤◌, ◌^◌, ◌⊎◌, [], ◌∷◌, ◌++◌, List, length, IfOk, MatchResult, MatchOption};
 ghost use Rattle.hash_rows.specs.declared.shape.Push.{Push};
-ghost use Rattle.push_lane.specs.LaneHistory.{LaneHistory, IsFullStep};
+ghost use Rattle.push_lane.specs.LaneHistory.{LaneHistory};
 ghost use Rattle.push_lane.specs.Rule.{StartsWith};
 ghost use Rattle.push_lane.specs.Views.{one_more};
 
@@ -57,7 +57,8 @@ impl Lane {
         }
     }
 
-    /// Sends the message. It comes back only where the lane was full at a step of the call.
+    /// Sends the message. Where it comes back, as many messages as the lane has room for were sent
+    /// before, and one try more is counted that the lane refused.
     pub fn push<R: Wait>(&self, rt: &R, pass: &mut InPass, message: Push) -> Result<(), Push>
         requires lane { pass.old.id ≡ self.now.id }
         requires room { length pass.old.sent < 2 ^ 32 }
@@ -65,7 +66,7 @@ impl Lane {
         ensures sent { MatchResult result
             (λ _. (pass.new.sent ≡ pass.old.sent ++ message ∷ []) × (pass.new.fulls ≡ pass.old.fulls))
             (λ back. (back ≡ message) × (pass.new.sent ≡ pass.old.sent) × (pass.new.fulls ≡ one_more pass.old.fulls)
-            × (self.now.capacity ≤ length pass.old.sent) × IsFullStep self.now.capacity pass.old.sent) }
+            × (self.now.capacity ≤ length pass.old.sent)) }
     {
         let back = self.queue.push_as::<Sends, R>(rt, &mut pass.pass, message);
         if back.is_err() {
@@ -74,14 +75,14 @@ impl Lane {
         back
     }
 
-    /// Sends the message once there is room.
+    /// Tries until the message is sent. Each try that the lane refuses is counted.
     pub fn push_wait<R: Wait>(&self, rt: &R, pass: &mut InPass, message: Push)
         requires lane { pass.old.id ≡ self.now.id }
         requires room { length pass.old.sent < 2 ^ 32 }
         ensures lane { pass.new.id ≡ pass.old.id }
         ensures sent { pass.new.sent ≡ pass.old.sent ++ message ∷ [] }
         ensures fulls { pass.old.fulls ≤ pass.new.fulls }
-        ensures full { (pass.new.fulls ≡ pass.old.fulls) ⊎ IsFullStep self.now.capacity pass.old.sent }
+        ensures full { (pass.new.fulls ≡ pass.old.fulls) ⊎ (self.now.capacity ≤ length pass.old.sent) }
     {
         for _ in rt.forever() {
             match self.push(rt, pass, message) {
@@ -92,7 +93,7 @@ impl Lane {
         unreachable!()
     }
 
-    /// Takes the oldest message. There is none only where the lane was empty at a step of the call.
+    /// Takes the oldest message of those that were sent and not taken, or none.
     pub fn take<R: Wait>(&self, rt: &R, pass: &mut OutPass) -> Option<Push>
         requires { pass.old.id ≡ self.now.id }
         ensures lane { pass.new.id ≡ pass.old.id }

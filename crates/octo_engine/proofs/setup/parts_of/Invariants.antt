@@ -1,7 +1,7 @@
 use Rattle.std.proofs.Common.{◌≡◌, ◌≤◌, ◌<◌, ℕ, length, slice_index_or}
 use Rattle.std.specs.Prelude.{vec_capacity}
 use Rattle.push_history.specs.Journal.{terms_of}
-use Rattle.octo_engine.specs.Owners.{AreOwners}
+use Rattle.shares.specs.Owners.{AreOwners}
 use Rattle.octo_engine.specs.Parts.{IsPart}
 use Rattle.octo_engine.proofs.setup.parts_of.Given as goal
 

@@ -1,6 +1,5 @@
-use Rattle.std.proofs.Common.{arith, ◌∙◌, inl, inr, subst, List, ⊎_elim}
+use Rattle.std.proofs.Common.{arith, ◌∙◌, inl, inr, subst, List, length, ◌≤◌, ⊎_elim}
 use Rattle.hash_rows.specs.declared.shape.Push.{Push}
-use Rattle.push_lane.specs.LaneHistory.{IsFullStep}
 use Rattle.push_lane.proofs.lane.Lane.push_wait.Goals as goal
 
 pub loop-preserved : goal.loop-preserved
@@ -10,7 +9,7 @@ loop-preserved g c =
       c.push.ensures.lane ∙ c.loop.invariant.0,
       refused.1 ∙ same,
       omega (arith, refused.2, c.loop.invariant.2),
-      inr (subst (λ (sent : List Push). IsFullStep c.args.self.now.capacity sent) same refused.4),
+      inr (subst (λ (sent : List Push). c.args.self.now.capacity ≤ length sent) same refused.3),
     )
 
 pub returns-in-Ok-clause-full : goal.returns-in-Ok-clause-full

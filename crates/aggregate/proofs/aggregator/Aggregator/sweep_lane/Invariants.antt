@@ -1,0 +1,17 @@
+use Rattle.std.proofs.Common.{◌≡◌, ◌≤◌, ◌-◌}
+use Rattle.std.specs.Prelude.{None}
+use Rattle.aggregate.specs.Sweeps.{HasTaken, KeepsPair}
+use Rattle.aggregate.specs.Takens.{AreEnds}
+use Rattle.aggregate.proofs.aggregator.Aggregator.sweep_lane.Given as goal
+
+abbrev pub invariant-loop-count : goal.invariant-loop-count
+invariant-loop-count g l = record {
+  ends : AreEnds l.lanes l.self.outs;
+  same : KeepsPair l.initial.self l.self;
+  count : l.count ≤ l.self.batch;
+  held : l.self.held ≡ None;
+  taken : HasTaken g.K.Kind.rules l.initial.self → HasTaken g.K.Kind.rules l.self;
+}
+
+abbrev pub decreases-loop-count : goal.decreases-loop-count
+decreases-loop-count g l = l.self.batch - l.count

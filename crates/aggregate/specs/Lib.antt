@@ -1,0 +1,2 @@
+pub mod Takens
+pub mod Sweeps

@@ -1,9 +1,0 @@
-use Rattle.std.proofs.Common.{◌≡◌, ◌==◌, length, slice_index_or}
-use Rattle.std.specs.Prelude.{filter}
-use Rattle.std.specs.List.{range_with_len}
-use Rattle.octo_engine.proofs.shares.share_of_owner.Given as goal
-
-abbrev pub invariant-loop-position : goal.invariant-loop-position
-invariant-loop-position l =
-    (l.share.items ≡ filter (λ i. slice_index_or l.owners.items i 0 == l.worker) (range_with_len 0 l.position))
-    × (l.share.room ≡ length (filter (λ i. slice_index_or l.owners.items i 0 == l.worker) (range_with_len 0 (length l.owners.items))))

@@ -1,0 +1,21 @@
+use Rattle.std.proofs.Common.{◌≡◌, ◌<◌, length, rules, arith, sym, subst, slice_index_or}
+use Rattle.push_lane.specs.Views.{LaneView}
+use Rattle.thread_run.specs.Workers.{HaveWorked, IsReady}
+use Rattle.thread_run.proofs.working.run_workers.Goals as goal
+
+pub for_each_mut-requires-clause-accepts : goal.for_each_mut-requires-clause-accepts
+for_each_mut-requires-clause-accepts g c κs within = λ i p below at.
+    let inside : i < length c.args.lanes.now = omega (arith, c.requires.len) in
+    let ready : (l : LaneView) → IsReady g.K.Kind.stands g.K.Kind.rules c.args.options.now c.args.packets.now (slice_index_or c.args.lanes.now i l) p.now = λ l. rw at (c.requires.ready.each i l p.now inside) in
+    ((c.requires.shape, c.requires.few, c.requires.lanes, inside, ready), search rules)
+
+pub returns : goal.returns
+returns g c = record {
+  worked = record {
+    len = search rules;
+    each = λ i l p lt.
+        let below : i < length c.args.parts.now = omega (arith, lt, c.requires.len) in
+        let at = (c.for_each_mut.ensures i p below).1 in
+        rw (← at.argument_is, ← at.left) (at.call l);
+  };
+}

@@ -1,0 +1,3 @@
+pub mod Readers
+pub mod Rest
+pub mod Workers

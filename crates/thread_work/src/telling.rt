@@ -1,0 +1,74 @@
+//! One update of a worker.
+ghost use Rattle.std.specs.Prelude.{◌≡◌, ◌<◌, ◌≤◌, ◌+◌, ◌^◌, [], ◌∷◌, ◌++◌, List, length, true, None, MatchBool};
+ghost use Rattle.hash_rows.specs.declared.options.Full.TheVariants.{Leave};
+ghost use Rattle.hash_rows.specs.declared.shape.Update.{Update};
+ghost use Rattle.push_lane.specs.Views.{one_more};
+ghost use Rattle.thread_work.specs.Worked.{HasTold, KeepsSketch};
+
+use hash_rows::{Full, Kind, Push, Update};
+use push_lane::{InPass, Lane};
+use push_rule::Private;
+use std::sync::Wait;
+
+// Sends the message, or leaves it where the lane is full and pushes don't wait.
+fn send<R: Wait>(rt: &R, full: Full, lane: &Lane, pass: &mut InPass, message: Push) -> bool
+    requires lane { pass.old.id ≡ lane.now.id }
+    requires room { length pass.old.sent < 2 ^ 32 }
+    ensures lane { pass.new.id ≡ pass.old.id }
+    ensures sent { MatchBool result
+        ((pass.new.sent ≡ pass.old.sent ++ message ∷ []) × (full ≡ Leave → pass.new.fulls ≡ pass.old.fulls))
+        ((full ≡ Leave) × (pass.new.sent ≡ pass.old.sent) × (pass.new.fulls ≡ one_more pass.old.fulls) × (lane.now.capacity ≤ length pass.old.sent)) }
+{
+    match full {
+        Full::Leave => lane.push(rt, pass, message).is_ok(),
+        Full::Wait => {
+            lane.push_wait(rt, pass, message);
+            true
+        }
+    }
+}
+
+/// Counts the update, and sends a push that is due, or refuses it at a full lane.
+pub fn tell<K: Kind, R: Wait>(
+    rt: &R,
+    worker: u32,
+    full: Full,
+    update: &Update,
+    sketch: &mut Private<K>,
+    lane: &Lane,
+    pass: &mut InPass,
+)
+    requires idle { sketch.old.due ≡ None }
+    requires room { sketch.old.counted < sketch.old.room }
+    requires cell { update.now.cell < length sketch.old.held }
+    requires value { K.rules.is_value update.now.value ≡ true }
+    requires lane { pass.old.id ≡ lane.now.id }
+    requires few { length pass.old.sent ≤ sketch.old.counted }
+    ensures idle { sketch.new.due ≡ None }
+    ensures counted { sketch.new.counted ≡ sketch.old.counted + 1 }
+    ensures same { KeepsSketch sketch.old sketch.new }
+    ensures lane { pass.new.id ≡ lane.now.id }
+    ensures few { length pass.new.sent ≤ sketch.new.counted }
+    ensures told { (updates : List Update) → HasTold K.stands K.rules worker lane.now.capacity full sketch.old pass.old updates
+        → HasTold K.stands K.rules worker lane.now.capacity full sketch.new pass.new (updates ++ update.now ∷ []) }
+{
+    let number = sketch.counted();
+    match sketch.count(update.cell, update.value) {
+        None => (),
+        Some(amount) => {
+            let message = Push {
+                worker,
+                packet: update.packet,
+                update: number,
+                key: update.key,
+                cell: update.cell,
+                amount,
+            };
+            if send(rt, full, lane, pass, message) {
+                sketch.sent();
+            } else {
+                sketch.refused();
+            }
+        }
+    }
+}
