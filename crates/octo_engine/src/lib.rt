@@ -13,4 +13,5 @@ mod settle;
 mod settled;
 mod setup;
 
+pub use looks::asked_keys;
 pub use settled::{Settled, run_rounds};

@@ -1,20 +1,33 @@
-ghost use Rattle.std.specs.Prelude.{◌≡◌, ◌≤◌, [], All, length, IfOk};
+ghost use Rattle.std.specs.Prelude.{◌≡◌, ◌<◌, ◌≤◌, ◌^◌, [], All, length, IfOk};
 ghost use Rattle.hash_rows.specs.Lawful.{IsLawful};
 ghost use Rattle.hash_rows.specs.Sequential.{sequential_table};
 ghost use Rattle.hash_rows.specs.declared.options.Mode.TheVariants.{Threads as InThreads};
 ghost use Rattle.hash_rows.specs.declared.options.Sketch.TheVariants.{CountMin};
-ghost use Rattle.push_history.specs.Journal.{journal_in};
+ghost use Rattle.push_history.specs.Journal.{journal_in, keys_of};
 ghost use Rattle.push_history.specs.LawfulJournal.{LawfulJournal};
 ghost use Rattle.round_law.specs.Outcome.{IsWhole};
 ghost use Rattle.thread_law.specs.Ran.{MatchesItsFront, ShowsNear};
+ghost use Rattle.thread_engine.specs.Blanks.{IsRestReady};
+ghost use Rattle.thread_engine.specs.Outcomes.{IsRan};
+ghost use Rattle.thread_engine.specs.Rooms.{HasRoom, IsEmptyFor};
+ghost use Rattle.thread_engine.specs.Stops.{AreAllReady};
 ghost use Rattle.thread_engine.specs.Rans.{AreDrained, HasSettled, MetFullLanes, sents};
 
-use crate::ran::Ran;
+use crate::asking::{rest_of, sheets_of};
+use crate::ending::Ended;
+use crate::finish::finish;
+use crate::ran::{Lanes, Ran};
+use crate::room::{Room, room_for};
+use crate::setup::{Start, start_of};
 use flow_base::NoMemory;
-use hash_rows::{Kind, Options, Packet};
+use hash_rows::{Keys, Kind, Options, Packet};
+use listed::Listed;
+use octo_engine::asked_keys;
+use shares::amounts_fit;
 use std::alloc::Global;
 use std::sync::Wait;
 use std::thread::Threads;
+use thread_run::{RestPart, WorkerPart, run_beside};
 use thread_work::Gate;
 
 /// Counts the packets in threads: workers, the aggregator and the readers go beside each other, at
@@ -42,6 +55,58 @@ pub fn run_threads<K: Kind, R: Threads + Wait + Sync, G: Gate>(
         → All (ShowsNear packets.now options.now (sents ran.passes.items) ran.settled.refused.items) ran.settled.answers.items) }
     ensures table { IfOk result (λ ran. ran.settled.table ≡ sequential_table K.rules options.now.shape packets.now) }
 {
-    let _unfinished = (rt, alloc, packets, options, gate);
-    Err(NoMemory)
+    amounts_fit(packets);
+    let keys = asked_keys(alloc, options)?;
+    let sheets = sheets_of(alloc, options, keys.len())?;
+    let readers = Listed::new(alloc, options.readers)?;
+    let ended = Listed::new(alloc, options.workers)?;
+    let room = room_for(alloc, options, &keys)?;
+    let Start {
+        workers,
+        lanes,
+        outs,
+    } = start_of(rt, alloc, packets, options)?;
+    let rest = rest_of(rt, alloc, options, &keys, outs, sheets, readers)?;
+    let workers = workers.into_items();
+    run_parts(rt, packets, options, gate, &keys, lanes, workers, rest, ended, room)
+}
+
+// Runs the parts beside each other, and brings together what they leave.
+fn run_parts<K: Kind, R: Threads + Wait + Sync, G: Gate>(
+    rt: &R,
+    packets: &[Packet],
+    options: &Options,
+    gate: &G,
+    keys: &Keys,
+    lanes: Lanes,
+    workers: Vec<WorkerPart<K>>,
+    rest: RestPart<K>,
+    ended: Listed<Ended<K>>,
+    room: Room<K>,
+) -> Result<Ran<K>, NoMemory>
+    requires lawful { IsLawful options.now }
+    requires sketch { options.now.sketch ≡ K.sketch }
+    requires few { length packets.now ≤ 16777216 }
+    requires amounts { All (λ p. p.amount < 2 ^ 32) packets.now }
+    requires keys { keys.now.items ≡ keys_of options.now }
+    requires start { AreAllReady K.stands K.rules options.now packets.now keys.now.items lanes.items workers.items rest }
+    requires ended { IsEmptyFor options.now.workers ended }
+    requires room { HasRoom options.now keys.now.items room }
+    ensures { IfOk result (λ ran. IsRan K.rules options.now packets.now ran) }
+{
+    let mut workers = workers;
+    let mut rest = rest;
+    run_beside(
+        rt,
+        packets,
+        options,
+        keys.as_slice(),
+        lanes.as_slice(),
+        gate,
+        &mut workers,
+        &mut rest,
+    );
+    finish(
+        rt, packets, options, keys, lanes, workers, rest, ended, room,
+    )
 }
