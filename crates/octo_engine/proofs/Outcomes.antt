@@ -35,7 +35,7 @@ use Rattle.round_law.specs.Outcome.{AreMarks, IsAnswerAt, IsLook, IsOutcome, set
 use Rattle.round_law.proofs.Fitting.{folded_fits, terms_laws}
 use Rattle.round_law.proofs.OwnRounds.{idle_by_workers, terms_len, worker_after}
 use Rattle.round_law.proofs.Settled.{settled_sequential}
-use Rattle.octo_engine.specs.declared.part.Part.{Part}
+use Rattle.octo_engine.specs.declared.worker.Part.{Part}
 use Rattle.octo_engine.specs.Answers.{AreAnswers, IsAnswerOf}
 use Rattle.octo_engine.specs.Looks.{AreAllLooks, layout_in, looks_wanted}
 use Rattle.octo_engine.specs.Parts.{is_busy_part}

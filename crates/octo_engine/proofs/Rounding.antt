@@ -17,7 +17,7 @@ use Rattle.live_state.specs.Fold.{StateView, absorbed, fresh_state, state_after}
 use Rattle.round_law.specs.OwnRounds.{folded_after, own_rounds, work_left}
 use Rattle.round_law.proofs.OwnRounds.{folded_more, rounds_more}
 use Rattle.round_law.proofs.Measure.{IsWithin, less_left, no_more_left, round_within}
-use Rattle.octo_engine.specs.declared.part.Part.{Part}
+use Rattle.octo_engine.specs.declared.worker.Part.{Part}
 use Rattle.octo_engine.specs.Counts.{HasShare}
 use Rattle.octo_engine.specs.Looks.{Runs, layout_in}
 use Rattle.octo_engine.specs.Parts.{IsPart, RanBlock, block, is_busy_part, messages_in, part_work}

@@ -10,7 +10,7 @@ use Rattle.push_history.specs.Share.{share_of_worker}
 use Rattle.round_law.specs.OwnRounds.{own_rounds}
 use Rattle.push_rule.specs.Counters.{CounterView, in_lane}
 use Rattle.push_rule.specs.Keeps.{Keeps}
-use Rattle.octo_engine.specs.declared.part.Part.{Part}
+use Rattle.octo_engine.specs.declared.worker.Part.{Part}
 use Rattle.octo_engine.specs.Counts.{HasShare, IsFit}
 
 -- the rounds of a block

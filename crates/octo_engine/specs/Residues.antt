@@ -10,7 +10,7 @@ use Rattle.push_history.specs.Pushes.{is_refused}
 use Rattle.push_history.specs.Residue.{residue}
 use Rattle.push_rule.specs.Counters.{CounterView}
 use Rattle.push_rule.specs.Keeps.{Keeps}
-use Rattle.octo_engine.specs.declared.part.Part.{Part}
+use Rattle.octo_engine.specs.declared.worker.Part.{Part}
 
 -- what the workers counted of a cell and did not tell, one after another
 abbrev pub residues_of : Terms → (ℕ → Worker) → ℕ → ℕ → List ℤ

@@ -10,7 +10,7 @@ use Rattle.push_history.specs.LagRun.{Terms}
 use Rattle.push_history.specs.Share.{share_of_worker}
 use Rattle.live_state.specs.Fold.{StateView, state_after}
 use Rattle.round_law.specs.OwnRounds.{folded_after}
-use Rattle.octo_engine.specs.declared.part.Part.{Part}
+use Rattle.octo_engine.specs.declared.worker.Part.{Part}
 use Rattle.octo_engine.specs.Counts.{HasShare}
 use Rattle.octo_engine.specs.Looks.{AreLooks, Runs, layout_in}
 use Rattle.octo_engine.specs.Parts.{IsPart, is_busy_part}

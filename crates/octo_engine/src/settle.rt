@@ -1,4 +1,11 @@
-ghost use Rattle.std.specs.Prelude.{◌≡◌, ◌<◌, ◌+◌, ℕ, [], length, map, fold, false, true, IfOk, slice_index_or};
+//! What a run comes to.
+ghost use Rattle.std.specs.Prelude.{◌≡◌, ◌^◌, ◌<◌, ◌≤◌, ℕ, All, length, IfOk, ◌+◌, [], map, fold, false, true, slice_index_or};
+ghost use Rattle.hash_rows.specs.Lawful.{IsLawful};
+ghost use Rattle.hash_rows.specs.Sequential.{sequential_table};
+ghost use Rattle.push_history.specs.Journal.{terms_of};
+ghost use Rattle.octo_engine.specs.Looks.{AreAllLooks};
+ghost use Rattle.octo_engine.specs.Rounds.{IsEnd};
+ghost use Rattle.octo_engine.specs.Settles.{HasOutcome};
 ghost use Rattle.std.specs.List.{range_with_len};
 ghost use Rattle.hash_rows.specs.Shapes.{size_of};
 ghost use Rattle.hash_rows.specs.Tables.{value_at};
@@ -7,16 +14,73 @@ ghost use Rattle.push_history.specs.Residue.{residue};
 ghost use Rattle.push_rule.specs.Keeps.{Keeps};
 ghost use Rattle.octo_engine.specs.Residues.{HasJoined, HasRefused, IsKept, IsRow};
 
-use crate::part::Part;
-use push_rule::Counter;
+use crate::looks::{answers_from, copy_counts};
+use crate::worker::Part;
+use crate::run::Settled;
 use flow_base::NoMemory;
-use hash_rows::{BitRows, Bits, Keys, Kind, Table};
+use hash_rows::{Answers, Kind, Options, Packet, Table, BitRows, Bits, Keys};
+use live_state::State;
+use std::alloc::Global;
+use push_rule::Counter;
 use heavy_keys::Heavy;
 use listed::Listed;
-use std::alloc::Global;
 
-/// Joins into each cell what each worker counted of it and did not tell.
-pub fn join_residues<K: Kind>(table: &mut Table<K>, parts: &[Part<K>])
+/// What the run comes to, from the parts, the state and the looks after its last round.
+pub fn settle<K: Kind>(
+    alloc: Global,
+    parts: Vec<Part<K>>,
+    state: State<K>,
+    looks: &Answers,
+    packets: &[Packet],
+    options: &Options,
+) -> Result<Settled<K>, NoMemory>
+    requires lawful { IsLawful options.now }
+    requires sketch { options.now.sketch ≡ K.sketch }
+    requires few { length packets.now ≤ 16777216 }
+    requires amounts { All (λ p. p.amount < 2 ^ 32) packets.now }
+    requires end { (n : ℕ) × IsEnd K.stands K.rules (terms_of packets.now options.now) options.now packets.now n parts.items state × AreAllLooks K.rules (terms_of packets.now options.now) options.now n looks.now.items }
+    ensures outcome { IfOk result (λ s. HasOutcome (terms_of packets.now options.now) options.now s.refused.items s.pushes.items s.answers.items s.live.items s.missed) }
+    ensures table { IfOk result (λ s. s.table ≡ sequential_table K.rules options.now.shape packets.now) }
+{
+    let answers = answers_from(alloc, looks, options)?;
+    let pushes = copy_counts(alloc, state.fronts(), state.workers())?;
+    let live = keys_of_heavy(alloc, state.heavy())?;
+    let missed = state.heavy().missed();
+    let table = table_of(state, parts.as_slice(), packets, options);
+    let refused = refused_rows(alloc, parts, options.workers)?;
+    Ok(Settled {
+        table,
+        refused,
+        pushes,
+        answers,
+        live,
+        missed,
+    })
+}
+
+// The table of what was folded, with each worker's residues joined in.
+fn table_of<K: Kind>(
+    state: State<K>,
+    parts: &[Part<K>],
+    packets: &[Packet],
+    options: &Options,
+) -> Table<K>
+    requires lawful { IsLawful options.now }
+    requires sketch { options.now.sketch ≡ K.sketch }
+    requires few { length packets.now ≤ 16777216 }
+    requires amounts { All (λ p. p.amount < 2 ^ 32) packets.now }
+    requires end { (n : ℕ) × IsEnd K.stands K.rules (terms_of packets.now options.now) options.now packets.now n parts.now state }
+    ensures { result ≡ sequential_table K.rules options.now.shape packets.now }
+{
+    let _packets = packets;
+    let _options = options;
+    let mut table = state.into_table();
+    join_residues(&mut table, parts);
+    table
+}
+
+// Joins into each cell what each worker counted of it and did not tell.
+fn join_residues<K: Kind>(table: &mut Table<K>, parts: &[Part<K>])
     requires kept { (w : ℕ) (p : _) → w < length parts.now → IsKept K.rules K.stands table.old.shape w (slice_index_or parts.now w p).counter }
     requires size { length table.old.cells ≡ size_of table.old.shape }
     ensures shape { table.new.shape ≡ table.old.shape }
@@ -45,8 +109,8 @@ fn join_residue<K: Kind>(table: &mut Table<K>, counter: &Counter<K>)
     }
 }
 
-/// For each worker which of its updates were refused.
-pub fn refused_rows<K: Kind>(
+// For each worker which of its updates were refused.
+fn refused_rows<K: Kind>(
     alloc: Global,
     mut parts: Vec<Part<K>>,
     workers: u32,
@@ -85,8 +149,8 @@ fn refused_of<K: Kind>(part: Part<K>) -> Bits
     counter.into_bits()
 }
 
-/// The heavy keys in their order.
-pub fn keys_of_heavy(alloc: Global, heavy: &Heavy) -> Result<Keys, NoMemory>
+// The heavy keys in their order.
+fn keys_of_heavy(alloc: Global, heavy: &Heavy) -> Result<Keys, NoMemory>
     ensures { IfOk result (λ keys. keys.items ≡ heavy.now.keys) }
 {
     let len = heavy.len();

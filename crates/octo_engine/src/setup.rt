@@ -1,3 +1,4 @@
+//! What a run begins with.
 ghost use Rattle.std.specs.Prelude.{◌≡◌, ◌<◌, ◌≤◌, ◌^◌, ◌+◌, ◌*◌, ℕ, [], All, length, IfOk, OnOk};
 ghost use Rattle.hash_rows.specs.Lawful.{IsLawful};
 ghost use Rattle.hash_rows.specs.Shapes.{size_of};
@@ -11,14 +12,13 @@ ghost use Rattle.shares.specs.Owners.{AreOwners};
 ghost use Rattle.octo_engine.specs.Parts.{IsSound, block};
 ghost use Rattle.octo_engine.specs.Rounds.{AreParts, Suit};
 
-use crate::part::{BLOCK, Part};
+use crate::worker::{BLOCK, Part};
 use shares::{Owners, amounts_fit, owners_of, positions_of};
-use push_rule::Counter;
+use push_rule::{Counter, Private};
 use flow_base::NoMemory;
 use hash_rows::{Kind, Options, Packet};
 use listed::Listed;
 use live_state::State;
-use push_rule::Private;
 use std::alloc::Global;
 
 /// The parts of all workers, which have counted nothing.

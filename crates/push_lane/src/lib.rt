@@ -5,8 +5,6 @@
 mod lane;
 mod passes;
 mod rule;
-#[cfg(test)]
-mod tests;
 
 pub use lane::Lane;
 pub use passes::{BothPass, InPass, OutPass};

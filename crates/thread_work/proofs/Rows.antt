@@ -46,14 +46,14 @@ module _ {H : Type 0} (stands : H → ℤ → ℤ → Type 0) (r : Rules) (w L :
       subst (HasTold stands r w L full sketch pass) (append_assoc U before (u ∷ []) ∙ ap (λ (l : List Update). U ++ l) (sym more)) h
 
   -- one packet more of a share
-  pub told_packet : (shape : Shape) (packets : List Packet) (share : List ℕ) (place : ℕ) → place < length share
-      → HasTold stands r w L full sketch pass (updates_of r shape packets (take place share) ++ updates_of_packet r shape (get_or share place 0) (packet_at packets (get_or share place 0)) shape.rows)
+  pub told_packet : (shape : Shape) (packets : List Packet) (share : List ℕ) (place position : ℕ) → place < length share → position ≡ get_or share place 0
+      → HasTold stands r w L full sketch pass (updates_of r shape packets (take place share) ++ updates_of_packet r shape position (packet_at packets position) shape.rows)
       → HasTold stands r w L full sketch pass (updates_of r shape packets (take (place + 1) share))
   unfolding updates_of updates_at
-  told_packet shape packets share place lt h =
+  told_packet shape packets share place position lt is h =
       let f = updates_at r shape packets in
-      let position = get_or share place 0 in
-      let all : flat_map f (take (place + 1) share) ≡ flat_map f (take place share) ++ (f position ++ []) = ap (flat_map f) (take_more share place 0 lt) ∙ flat_map-append f (take place share) (position ∷ []) in
+      let all : flat_map f (take (place + 1) share) ≡ flat_map f (take place share) ++ (f position ++ []) =
+      ap (flat_map f) (take_more share place 0 lt) ∙ ap (λ (n : ℕ). flat_map f (take place share ++ n ∷ [])) (sym is) ∙ flat_map-append f (take place share) (position ∷ []) in
       subst (HasTold stands r w L full sketch pass) (ap (λ (l : List Update). flat_map f (take place share) ++ l) (sym (append-nil (f position))) ∙ sym all) h
 
 -- nothing is told

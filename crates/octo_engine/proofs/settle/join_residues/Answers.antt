@@ -1,7 +1,7 @@
 use Rattle.std.proofs.Common.{◌∙◌, ◌<◌, sym, ap, subst}
 use Rattle.hash_rows.specs.Shapes.{size_of}
 use Rattle.push_rule.specs.Keeps.{Keeps}
-use Rattle.octo_engine.specs.declared.part.Part.{Part}
+use Rattle.octo_engine.specs.declared.worker.Part.{Part}
 use Rattle.octo_engine.proofs.Settling.{joined_more}
 use Rattle.octo_engine.proofs.settle.join_residues.Goals as goal
 

@@ -24,5 +24,5 @@ loop-place-preserved g c =
       same = same_then _ _ _ h.same e.same;
       lane = e.lane;
       few = e.few;
-      told = told_packet g.K.Kind.stands g.K.Kind.rules _ _ _ _ _ c.args.shape.now c.args.packets.now c.args.share.now c.loop-place.place below (e.told _ h.told);
+      told = told_packet g.K.Kind.stands g.K.Kind.rules _ _ _ _ _ c.args.shape.now c.args.packets.now c.args.share.now c.loop-place.place _ below c.at-position.ensures (e.told _ h.told);
     }

@@ -1,6 +1,7 @@
-use Rattle.std.proofs.Common.{◌≡◌, ◌≤◌, ◌-◌}
+use Rattle.std.proofs.Common.{◌≡◌, ◌≤◌, ◌-◌, List, length}
 use Rattle.std.specs.Prelude.{None}
-use Rattle.aggregate.specs.Sweeps.{HasTaken, KeepsPair}
+use Rattle.hash_rows.specs.declared.shape.Push.{Push}
+use Rattle.aggregate.specs.Sweeps.{HasSweptLane, HasTaken, KeepsPair}
 use Rattle.aggregate.specs.Takens.{AreEnds}
 use Rattle.aggregate.proofs.aggregator.Aggregator.sweep_lane.Given as goal
 
@@ -10,6 +11,8 @@ invariant-loop-count g l = record {
   same : KeepsPair l.initial.self l.self;
   count : l.count ≤ l.self.batch;
   held : l.self.held ≡ None;
+  published : l.self.writer.published ≡ l.initial.self.writer.published;
+  swept : (more : List Push) × HasSweptLane g.K.Kind.rules l.place more l.initial.self l.self × (l.count ≡ length more);
   taken : HasTaken g.K.Kind.rules l.initial.self → HasTaken g.K.Kind.rules l.self;
 }
 

@@ -1,5 +1,0 @@
-use Rattle.std.proofs.Common.{◌≡◌}
-use Rattle.push_lane.proofs.tests.take_until.Given as goal
-
-abbrev pub invariant-loop-update : goal.invariant-loop-update
-invariant-loop-update g l = l.pass.id ≡ l.initial.pass.id
