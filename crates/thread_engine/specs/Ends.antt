@@ -6,7 +6,7 @@ use Rattle.hash_rows.specs.declared.shape.Push.{Push}
 use Rattle.hash_rows.specs.Rules.{Rules}
 use Rattle.push_history.specs.Front.{messages_of}
 use Rattle.push_lane.specs.Rule.{StartsWith}
-use Rattle.push_lane.specs.Views.{BothView, InView, LaneView}
+use Rattle.push_lane.specs.Views.{BothView, InView, LaneView, OutView}
 use Rattle.live_state.specs.declared.layout.Layout.{Layout}
 use Rattle.aggregate.specs.Takens.{AreNamed, taken_at}
 use Rattle.thread_run.specs.declared.parts.WorkerPart.{WorkerPart}
@@ -45,3 +45,11 @@ pub record AreKept (r : Rules) (l : Layout) (sents takens : List (List Push)) (k
   pub named : AreNamed r l sents
   pub order : (w : ℕ) → StartsWith (taken_at sents w) (taken_at takens w)
   pub own : (w : ℕ) → messages_of w kept ≡ taken_at takens w
+
+module _ {K H : Type 0} where
+  -- what comes of the part of a worker and of the pass to take
+  pub record IsEndOf (worker : WorkerPart K H) (out : OutView) (e : Ended K H) : Type 0 where
+    pub sketch : e.sketch ≡ worker.sketch
+    pub sent : sent_end e.pass ≡ worker.pass
+    pub taken : e.pass.taken ≡ out.taken
+    pub order : StartsWith e.pass.sent e.pass.taken

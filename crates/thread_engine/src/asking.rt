@@ -22,7 +22,8 @@ pub fn sheets_of(alloc: Global, options: &Options, keys: u32) -> Result<Sheets, 
 {
     let mut sheets = Listed::new(alloc, options.readers)?;
     for reader in 0..options.readers {
-        sheets.push(sheet_of(alloc, options, keys, reader)?);
+        let sheet = sheet_of(alloc, options, keys, reader)?;
+        sheets.push(sheet);
     }
     Ok(sheets)
 }
@@ -33,7 +34,8 @@ fn sheet_of(alloc: Global, options: &Options, keys: u32, reader: u32) -> Result<
 {
     let mut sheet = Listed::new(alloc, options.asks)?;
     for number in 0..options.asks {
-        sheet.push(Answer::new(alloc, reader, number, options.workers, keys)?);
+        let answer = Answer::new(alloc, reader, number, options.workers, keys)?;
+        sheet.push(answer);
     }
     Ok(sheet)
 }

@@ -74,7 +74,8 @@ pub fn end_all<K: Kind, R: Wait>(
         let Some(out) = outs.next() else {
             unreachable!()
         };
-        ended.push(end_of(rt, lane, worker, out));
+        let one = end_of(rt, lane, worker, out);
+        ended.push(one);
     }
     ended.into_items()
 }
