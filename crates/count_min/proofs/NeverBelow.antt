@@ -1,10 +1,10 @@
 -- Count-Min is never below: each cell of a key is at least what the key's packets amount to.
 use Rattle.std.proofs.Common.{◌≡◌, ◌<◌, ◌≤◌, ◌+◌, ◌*◌, ◌/◌, ◌^◌, ◌≤ℤ◌, ◌+ℤ◌, ◌==◌, ℕ, ℤ, pos, zero, suc, Bool, true, false, cond, inl, inr, List, [], ◌∷◌, length, map, filter, fold, refl, sym, ap, subst, ◌∙◌, arith}
 use Rattle.std.specs.Prelude.{sum_by, if◌then◌else◌}
-use Rattle.std.specs.Int.{int_min, int_wrap, w64}
+use Rattle.std.specs.Int.{int_min}
 use Rattle.std.specs.List.{flat_map, range_with_len}
-use Rattle.std.proofs.lemmas.Bool.{eqb-true, eq-eqb, true≢false}
-use Rattle.std.proofs.lemmas.Int.{int_wrap_fits, ints, clamps}
+use Rattle.std.proofs.lemmas.Bool.{eq-eqb, true≢false}
+use Rattle.std.proofs.lemmas.Int.{ints, clamps}
 use Rattle.std.proofs.lemmas.List.FromFn.{get_or-map-range_with_len}
 use Rattle.std.proofs.lemmas.List.Sums.{fold-append, sum_by-cons, sum_by-le-sum_by}
 use Rattle.std.proofs.Math.Nat.{mul-le-mul_left, eq-or-lt_of_le}
@@ -12,25 +12,15 @@ use Rattle.packet_key.specs.declared.key.FlowKey.{FlowKey}
 use Rattle.hash_rows.specs.declared.shape.Shape.{Shape}
 use Rattle.hash_rows.specs.declared.shape.Packet.{Packet}
 use Rattle.hash_rows.specs.Amounts.{key_amount, total_amount}
-use Rattle.hash_rows.specs.Keys.{same_key}
+use Rattle.packet_key.specs.Keys.{same_key}
 use Rattle.hash_rows.specs.Rules.{sums}
 use Rattle.hash_rows.specs.Sequential.{packet_values, cell_values, sequential, sequential_table}
 use Rattle.hash_rows.specs.Shapes.{IsShape, cell_of, size_of}
-use Rattle.hash_rows.specs.Sketches.{is_sum, least_of, sum_join, count_min_value, count_min_estimate, key_cells, rows_of}
+use Rattle.hash_rows.specs.Sketches.{least_of, sum_join, count_min_value, count_min_estimate, key_cells, rows_of}
 use Rattle.hash_rows.specs.Tables.{value_at}
-use Rattle.hash_rows.proofs.EqualKeys.{same_key-eq}
-use Rattle.hash_rows.proofs.Places.{place_within, row_of_place}
-use Rattle.hash_rows.proofs.SumLaws.{sum_join_is, fits_sum}
-
--- a sum of amounts that doesn't reach 2 ^ 63 is the sum
-pub amount_sum : (n : ℕ) → n < 2 ^ 63 → is_sum (pos n) ≡ true
-amount_sum n small = grind arith
-
-pub join_amounts : (s n : ℕ) → s + n < 2 ^ 63 → sum_join (pos s) (pos n) ≡ pos (s + n)
-join_amounts s n small =
-    let whole : pos s +ℤ pos n ≡ pos (s + n) = omega (arith, ints) in
-    sum_join_is (pos s) (pos n) (amount_sum s (omega arith)) (amount_sum n (omega arith))
-    ∙ ap (int_wrap w64) whole ∙ int_wrap_fits w64 (pos (s + n)) (fits_sum (pos (s + n)) (amount_sum (s + n) small))
+use Rattle.packet_key.proofs.EqualKeys.{same_key-eq}
+use Rattle.hash_rows.proofs.Places.{place_within}
+use Rattle.hash_rows.proofs.PlainSums.{added, added_most, join_amounts, rows_at}
 
 rows_joined : (n : ℕ) (rows : List ℕ) (s : ℕ) → s + n * length rows < 2 ^ 63
     → fold sum_join (pos s) (map (λ row. pos n) rows) ≡ pos (s + n * length rows)
@@ -39,14 +29,6 @@ rows_joined n (row ∷ rows) s small =
     ap (λ x. fold sum_join x (map (λ r. pos n) rows)) (join_amounts s n (omega arith))
     ∙ rows_joined n rows (s + n) (omega arith)
     ∙ ap pos (omega arith)
-
--- the rows in which the packet's key has the cell
-unfoldable pub rows_at : Shape → ℕ → Packet → List ℕ
-rows_at shape cell packet = filter (λ row. cell_of shape packet.key row == cell) (rows_of shape)
-
--- what the packet adds to the cell
-unfoldable pub added : Shape → ℕ → Packet → ℕ
-added shape cell packet = packet.amount * length (rows_at shape cell packet)
 
 packets_joined : (shape : Shape) (cell : ℕ) (packets : List Packet) (s : ℕ) → s + sum_by (added shape cell) packets < 2 ^ 63
     → fold sum_join (pos s) (flat_map (packet_values (sums count_min_value count_min_estimate) shape cell) packets) ≡ pos (s + sum_by (added shape cell) packets)
@@ -59,27 +41,6 @@ packets_joined shape cell (p ∷ packets) s small =
     ∙ ap (λ x. fold sum_join x (flat_map values packets)) (rows_joined p.amount (rows_at shape cell p) s (omega arith))
     ∙ packets_joined shape cell packets (s + added shape cell p) (omega arith)
     ∙ ap pos (omega arith)
-
--- the cell of a row gets a packet's amount once at most
-none_above : (test : ℕ → Bool) (only : ℕ) → ((row : ℕ) → test row ≡ true → row ≡ only) → (a n : ℕ) → only < a → filter test (range_with_len a n) ≡ []
-none_above test only says a zero above = refl
-none_above test only says a (suc n) above = by_test (test a) refl (none_above test only says (a + 1) n (omega arith)) where
-  by_test : (b : Bool) → test a ≡ b → filter test (range_with_len (a + 1) n) ≡ [] → filter test (range_with_len a (suc n)) ≡ []
-  by_test true here rest = absurd (omega (arith, says a here))
-  by_test false here rest = ap (λ b. cond b (a ∷ filter test (range_with_len (a + 1) n)) (filter test (range_with_len (a + 1) n))) here ∙ rest
-
-pub once_at_most : (test : ℕ → Bool) (only : ℕ) → ((row : ℕ) → test row ≡ true → row ≡ only) → (a n : ℕ) → length (filter test (range_with_len a n)) ≤ 1
-once_at_most test only says a zero = omega arith
-once_at_most test only says a (suc n) = by_test (test a) refl (once_at_most test only says (a + 1) n) where
-  by_test : (b : Bool) → test a ≡ b → length (filter test (range_with_len (a + 1) n)) ≤ 1 → length (filter test (range_with_len a (suc n))) ≤ 1
-  by_test true here rest =
-      let past : only < a + 1 = omega (arith, says a here) in
-      let one : length (filter test (range_with_len a (suc n))) ≡ 1 =
-      ap length (ap (λ b. cond b (a ∷ filter test (range_with_len (a + 1) n)) (filter test (range_with_len (a + 1) n))) here
-      ∙ ap (λ xs. a ∷ xs) (none_above test only says (a + 1) n past)) in
-      omega arith
-  by_test false here rest =
-      subst (λ b. length (cond b (a ∷ filter test (range_with_len (a + 1) n)) (filter test (range_with_len (a + 1) n))) ≤ 1) (sym here) rest
 
 -- and once at least, where a row has it
 once_at_least : (test : ℕ → Bool) (row : ℕ) → test row ≡ true → (a n : ℕ) → a ≤ row → row < a + n → 1 ≤ length (filter test (range_with_len a n))
@@ -106,16 +67,6 @@ least_of_rows : (b : ℤ) (f : ℕ → ℤ) (n : ℕ) → 0 < n → ((row : ℕ)
 least_of_rows b f zero some each = absurd (omega arith)
 least_of_rows b f (suc n) some each =
     least_at_least b f (f 0) (0 + 1) n (each 0 (omega arith)) (λ row from to. each row (omega arith))
-
--- what a packet adds to a cell of the key
-pub added_most : (shape : Shape) → IsShape shape → (cell : ℕ) (p : Packet) → added shape cell p ≤ p.amount
-unfolding added rows_at
-added_most shape lawful cell p =
-    let test : ℕ → Bool = λ row. cell_of shape p.key row == cell in
-    let says : (row : ℕ) → test row ≡ true → row ≡ cell / shape.columns =
-    λ row here. sym (row_of_place shape lawful p.key row) ∙ ap (λ c. c / shape.columns) (eqb-true (cell_of shape p.key row) cell here) in
-    let once = mul-le-mul_left p.amount (once_at_most test (cell / shape.columns) says 0 shape.rows) in
-    omega arith
 
 added_least : (shape : Shape) (key : FlowKey) (row : ℕ) → row < shape.rows → (p : Packet)
     → (if same_key p.key key then p.amount else 0) ≤ added shape (cell_of shape key row) p

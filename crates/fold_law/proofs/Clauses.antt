@@ -13,9 +13,9 @@ use Rattle.hash_rows.specs.declared.options.Sketch.{Sketch}
 use Rattle.hash_rows.specs.declared.shape.Flow.{Flow}
 use Rattle.hash_rows.specs.declared.shape.Push.{Push}
 use Rattle.hash_rows.specs.declared.shape.Shape.{Shape}
-use Rattle.hash_rows.specs.Keys.{same_key}
+use Rattle.packet_key.specs.Keys.{same_key}
 use Rattle.hash_rows.specs.Rules.{Rules, rules_of}
-use Rattle.hash_rows.proofs.EqualKeys.{same_key-eq}
+use Rattle.packet_key.proofs.EqualKeys.{same_key-eq}
 use Rattle.push_history.specs.Share.{zero_key}
 use Rattle.push_history.specs.Front.{message_at, messages_of}
 use Rattle.push_history.specs.Journal.{rules_in}

@@ -17,7 +17,7 @@ use Rattle.hash_rows.specs.Shapes.{cell_of, size_of}
 use Rattle.hash_rows.specs.Sketches.{is_sum, least_of, count_min_estimate, key_cells, rows_of}
 use Rattle.hash_rows.specs.Tables.{value_at}
 use Rattle.hash_rows.proofs.SumLaws.{count_min_lawful}
-use Rattle.count_min.proofs.NeverBelow.{amount_sum}
+use Rattle.hash_rows.proofs.PlainSums.{amount_sum}
 use Rattle.push_history.specs.Share.{zero_key}
 use Rattle.push_history.specs.Front.{message_at, messages_of}
 use Rattle.push_history.specs.LawfulJournal.{all_of}

@@ -11,14 +11,14 @@ use Rattle.hash_rows.specs.declared.shape.Push.{Push}
 use Rattle.hash_rows.specs.Rules.{rules_of}
 use Rattle.push_history.specs.Front.{message_at, messages_of}
 use Rattle.push_history.specs.Journal.{rules_in, updates_by_options}
-use Rattle.push_history.specs.LawfulJournal.{all_of, sent_by, IsGrowingTable, IsLiveTable}
+use Rattle.push_history.specs.LawfulJournal.{all_of, sent_by, IsGrowingTable, IsLiveTable, IsLawfulHeavy}
 use Rattle.push_history.specs.LiveHeavy.{live_keys, missed_keys}
 use Rattle.push_history.specs.Pushes.{ArePushes, LawfulPushes}
 use Rattle.push_history.specs.Share.{share_of_worker}
 use Rattle.push_history.specs.Shown.{told_cells}
 use Rattle.push_history.specs.Updates.{updates_of}
 use Rattle.push_history.proofs.Notes.{note_by}
-use Rattle.fold_law.specs.Folds.{IsFoldOf, IsLawfulHeavy}
+use Rattle.fold_law.specs.Folds.{IsFoldOf}
 use Rattle.fold_law.proofs.Clauses.{live_table, growing, only_fold}
 use Rattle.fold_law.proofs.Estimates.{own_below, all_above}
 use Rattle.fold_law.proofs.Sums.{count_min, IsPlain, plain_told}

@@ -7,7 +7,7 @@ use Rattle.packet_key.specs.declared.key.FlowKey.{FlowKey}
 use Rattle.hash_rows.specs.declared.shape.Flow.{Flow}
 use Rattle.hash_rows.specs.declared.shape.Push.{Push}
 use Rattle.hash_rows.specs.declared.shape.Shape.{Shape}
-use Rattle.hash_rows.specs.Keys.{same_key}
+use Rattle.packet_key.specs.Keys.{same_key}
 use Rattle.hash_rows.specs.Rules.{Rules}
 use Rattle.push_history.specs.Share.{zero_key}
 use Rattle.push_history.specs.Front.{message_at, messages_of}
@@ -15,7 +15,7 @@ use Rattle.push_history.specs.LawfulJournal.{all_of, sent_by}
 use Rattle.push_history.specs.LiveHeavy.{is_among, with_key, distinct_keys, qualifying, live_of, missed_of, notes_of}
 use Rattle.push_history.proofs.Notes.{note_by, notes_push, notes_none}
 use Rattle.push_history.proofs.Sharing.{by_places}
-use Rattle.heavy_keys.proofs.LiveLemmas.{none_missing_live}
+use Rattle.push_history.proofs.LiveLists.{none_missing_live}
 use Rattle.fold_law.specs.Folds.{IsFoldOf}
 use Rattle.fold_law.proofs.Steps.{count, count_append, count_one, steps, count_by_worker}
 

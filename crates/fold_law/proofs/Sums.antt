@@ -11,7 +11,7 @@ use Rattle.hash_rows.specs.declared.shape.Update.{Update}
 use Rattle.hash_rows.specs.Rules.{Rules, sums}
 use Rattle.hash_rows.specs.Sketches.{sum_join, sum_gap, count_min_value, count_min_estimate}
 use Rattle.hash_rows.proofs.SumLaws.{sum_gap_is, fits_sum}
-use Rattle.count_min.proofs.NeverBelow.{amount_sum, join_amounts}
+use Rattle.hash_rows.proofs.PlainSums.{amount_sum, join_amounts}
 use Rattle.push_history.specs.Share.{zero_key}
 use Rattle.push_history.specs.Pushes.{ArePushes, TellsAll, is_sent}
 use Rattle.push_history.specs.Told.{told_of, told, messages_before}

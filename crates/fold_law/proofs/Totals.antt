@@ -13,7 +13,7 @@ use Rattle.hash_rows.specs.declared.shape.Shape.{Shape}
 use Rattle.hash_rows.specs.declared.shape.Update.{Update}
 use Rattle.hash_rows.specs.Shapes.{IsShape, cell_of}
 use Rattle.hash_rows.specs.Sketches.{rows_of}
-use Rattle.count_min.proofs.NeverBelow.{added, added_most, rows_at}
+use Rattle.hash_rows.proofs.PlainSums.{added, added_most, rows_at}
 use Rattle.push_history.specs.Share.{packet_at, worker_of, share_of_worker, zero_key}
 use Rattle.push_history.specs.Front.{messages_of}
 use Rattle.push_history.specs.LawfulJournal.{sent_by}

@@ -1,5 +1,4 @@
 pub mod Columns
-pub mod EqualKeys
 pub mod HeldRanks
 pub mod HeldSums
 pub mod KeyHashes
@@ -10,3 +9,4 @@ pub mod SumLaws
 pub mod Values
 pub mod WordCounts
 pub mod Words
+pub mod PlainSums

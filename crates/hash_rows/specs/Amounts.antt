@@ -2,7 +2,7 @@
 use Rattle.std.specs.Prelude.{ℕ, List, sum_by, if◌then◌else◌}
 use Rattle.packet_key.specs.declared.key.FlowKey.{FlowKey}
 use Rattle.hash_rows.specs.declared.shape.Packet.{Packet}
-use Rattle.hash_rows.specs.Keys.{same_key}
+use Rattle.packet_key.specs.Keys.{same_key}
 
 -- all packets together
 unfoldable pub total_amount : List Packet → ℕ

@@ -12,18 +12,21 @@ use Rattle.hash_rows.specs.Hash.{row_hash_of}
 use Rattle.hash_rows.specs.Shapes.{cell_of}
 use Rattle.hash_rows.specs.Tables.{value_at}
 
--- Count-Min and Count Sketch join by sums modulo 2 ^ 64
+-- Count-Min and Count Sketch join by sums modulo 2 ^ 64.
 
 -- a number of 64 bits with sign
 abbrev pub is_sum : ℤ → Bool
 is_sum a = int_le (negsuc 9223372036854775807) a && int_le a (pos 9223372036854775807)
 
+-- the sum
 abbrev pub sum_join : ℤ → ℤ → ℤ
 sum_join a b = int_wrapping_add w64 a b
 
+-- what is to be added to `told`, so that it is `whole`
 abbrev pub sum_gap : ℤ → ℤ → ℤ
 sum_gap told whole = int_wrapping_sub w64 whole told
 
+-- how large that is
 abbrev pub sum_distance : ℤ → ℤ → ℕ
 sum_distance told whole = unsigned_abs (sum_gap told whole)
 
@@ -31,6 +34,7 @@ sum_distance told whole = unsigned_abs (sum_gap told whole)
 abbrev pub small_gap : ℤ → Option ℤ
 small_gap gap = if nat_le (unsigned_abs gap) 127 then Some gap else None
 
+-- the gap of two sums in one byte, where it fits
 abbrev pub sum_small : ℤ → ℤ → Option ℤ
 sum_small told whole = small_gap (sum_gap told whole)
 
@@ -42,6 +46,7 @@ count_min_value shape packet row = pos packet.amount
 abbrev pub signed_in_row : FlowKey → ℕ → ℤ → ℤ
 signed_in_row key row a = if nat_lt (row_hash_of key row) (2 ^ 63) then a else int_wrapping_neg w64 a
 
+-- what the packet adds to its cell of a Count Sketch: its amount, with the sign of the row
 abbrev pub count_sketch_value : Shape → Packet → ℕ → ℤ
 count_sketch_value shape packet row = signed_in_row packet.key row (pos packet.amount)
 
@@ -58,6 +63,7 @@ abbrev pub least_of : List ℤ → ℤ
 least_of [] = pos 0
 least_of (x ∷ xs) = fold int_min x xs
 
+-- the least of the cells of the key
 unfoldable pub count_min_estimate : Shape → List ℤ → FlowKey → ℤ
 count_min_estimate shape cells key = least_of (key_cells shape cells key)
 
@@ -79,20 +85,25 @@ lower_median_of xs = slice_index_or (sorted_of xs) ((length xs - 1) / 2) (pos 0)
 unfoldable pub signed_cells : Shape → List ℤ → FlowKey → List ℤ
 signed_cells shape cells key = map (λ row. signed_in_row key row (value_at cells (cell_of shape key row))) (rows_of shape)
 
+-- the lower median of the signed cells of the key
 unfoldable pub count_sketch_estimate : Shape → List ℤ → FlowKey → ℤ
 count_sketch_estimate shape cells key = lower_median_of (signed_cells shape cells key)
 
--- LogLog joins by the greater of two ranks, from 0 to 32
+-- LogLog joins by the greater of two ranks, from 0 to 32.
 
+-- a rank: 0 where nothing was counted
 abbrev pub is_rank : ℤ → Bool
 is_rank a = int_le (pos 0) a && int_le a (pos 32)
 
+-- the greater rank
 abbrev pub rank_join : ℤ → ℤ → ℤ
 rank_join a b = int_max a b
 
+-- the whole rank, where it is above `told`
 abbrev pub rank_gap : ℤ → ℤ → ℤ
 rank_gap told whole = if int_lt told whole then whole else pos 0
 
+-- how far the whole rank is above `told`
 abbrev pub rank_distance : ℤ → ℤ → ℕ
 rank_distance told whole = if int_lt told whole then unsigned_abs (whole -ℤ told) else 0
 
@@ -104,6 +115,7 @@ rank_small told whole = if nat_le (rank_distance told whole) 2 then Some (pos (u
 unfoldable pub rank_of : ℕ → ℕ → ℕ
 rank_of hash m = if hash / m == 0 then 32 else min 32 (1 + trailing_zeros w64 (hash / m))
 
+-- what a packet tells its register: the rank of its row hash in row 0
 abbrev pub loglog_value : Shape → Packet → ℕ → ℤ
 loglog_value shape packet row = pos (rank_of (row_hash_of packet.key 0) shape.columns)
 
@@ -130,5 +142,6 @@ distinct_of m cells =
     let v = zero_registers cells in
     if nat_lt 0 v && nat_le (2 * raw) (5 * m) then linear_count m v else raw
 
+-- how many keys were counted, whatever key is asked for
 unfoldable pub loglog_estimate : Shape → List ℤ → FlowKey → ℤ
 loglog_estimate shape cells key = pos (distinct_of shape.columns cells)

@@ -4,6 +4,7 @@ use Rattle.std.specs.Ordering.{int_eq}
 use Rattle.std.specs.Coded.{Coded, code_by, coded×, coded_ℕ, coded_ℤ, coded_list}
 use Rattle.hash_rows.specs.declared.shape.Shape.{Shape}
 
+-- a shape, and the value of each cell
 pub record TableView : Type 0 where
   pub shape : Shape
   pub cells : List ℤ

@@ -1,4 +1,4 @@
--- How many different keys there are, counted in parts.
+-- How many different keys there are, counted in buckets.
 use Rattle.std.proofs.Common.{◌≡◌, ℤ, ◌+◌, List, [], ◌∷◌, length, map, filter, inl, inr, refl, sym, ◌∙◌, ap, ap₂, subst, arith, suc, Bool, true, false, not, cond, ◌||◌, ◌&&◌, true≢false, Contains}
 use Rattle.std.specs.Cmp.{IsTotalOrder, both_ways}
 use Rattle.std.specs.List.{count_by}
@@ -22,7 +22,7 @@ use Rattle.std.proofs.lemmas.List.Kept.{Contains-dedup, Contains-from_dedup, IsS
 use Rattle.std.proofs.lemmas.List.Sorted.{Contains-permutation, IsPermutation-sym}
 use Rattle.packet_key.specs.contracts.key.FlowKeyEq.TheImpl.Laws.{laws-law}
 use Rattle.packet_key.specs.contracts.key.FlowKeyOrd.TheImpl.Laws.{matches_eq-law, total-law}
-use Rattle.heavy_keys.specs.FinalHeavy.{key_order}
+use Rattle.heavy_keys.specs.FinalHeavy.{key_cmp}
 use Rattle.heavy_keys.specs.Candidates.{rank_by}
 use Rattle.heavy_keys.specs.Ranks.{rank_order}
 use Rattle.heavy_keys.proofs.KeyOrder.{exact_key, one_key}
@@ -130,11 +130,11 @@ module _ {X : Type 0} (key : X → FlowKey) (mark : X → Bool) where
           ∙ ap (λ n. n + distinct_count same_key (map key (filter mark xs))) (sym (sum_by-cons (λ y. cond (not (mark y)) 1 0) x xs ∙ ap (λ t. cond (not t) 1 0 + count_by (λ y. not (mark y)) xs) e))
 
 -- keys that were sorted, and of which each was left once
-pub count_once : (old sorted new : List FlowKey) → IsPermutation old sorted → IsFiltered (DiffersFromLast same_key) [] sorted new → IsSorted key_order sorted → length new ≡ distinct_count same_key old
+pub count_once : (old sorted new : List FlowKey) → IsPermutation old sorted → IsFiltered (DiffersFromLast same_key) [] sorted new → IsSorted key_cmp sorted → length new ≡ distinct_count same_key old
 count_once old sorted new permuted kept h =
     let left : new ≡ dedup same_key sorted = dedup_is same_key sorted new kept in
-    let alike : eq_by_cmp key_order ≡ same_key = λ i a b. sym (matches_eq-law a b) i in
-    count_sorted total-law exact_key new old (subst (IsStrictlySortedBy key_order) (sym left) (IsStrictlySortedBy-dedup total-law matches_eq-law sorted h))
+    let alike : eq_by_cmp key_cmp ≡ same_key = λ i a b. sym (matches_eq-law a b) i in
+    count_sorted total-law exact_key new old (subst (IsStrictlySortedBy key_cmp) (sym left) (IsStrictlySortedBy-dedup total-law matches_eq-law sorted h))
     (λ q c. Contains-permutation sorted old q (IsPermutation-sym old sorted permuted) (Contains-from_dedup same_key sorted q (subst (λ (l : List FlowKey). Contains l q) left c)))
     (λ q c. subst (λ (l : List FlowKey). Contains l q) (sym left) (Contains-dedup laws-law one_key sorted q (Contains-permutation old sorted q permuted c)))
     ∙ ap (λ e. distinct_count e old) alike

@@ -7,10 +7,10 @@ use Rattle.std.proofs.lemmas.List.Elements.{All-push, Contains-append_cases, Con
 use Rattle.std.proofs.lemmas.List.Sums.{fold-append}
 use Rattle.packet_key.specs.declared.key.FlowKey.{FlowKey}
 use Rattle.hash_rows.specs.declared.shape.Packet.{Packet}
-use Rattle.heavy_keys.specs.Candidates.{AreFound, AreFoundUpTo, IsCandidate, in_order, key_at, key_of, no_packet, rank_by, ranks_of}
-use Rattle.heavy_keys.specs.Parts.{AreParts}
-use Rattle.heavy_keys.specs.Ranks.{AreHeavy, Rank, rank_of, rank_order}
-use Rattle.heavy_keys.specs.Spread.{spread_of}
+use Rattle.heavy_keys.specs.Candidates.{AreFound, AreFoundUpTo, IsCandidate, in_order, key_at, candidate_key, no_packet, rank_by, ranks_of}
+use Rattle.heavy_keys.specs.Buckets.{AreBuckets}
+use Rattle.heavy_keys.specs.Ranks.{AreHeavy, Rank, flow_rank, rank_order}
+use Rattle.heavy_keys.specs.Fingerprints.{fingerprint_of}
 use Rattle.heavy_keys.specs.declared.candidates.Candidate.{Candidate}
 use Rattle.heavy_keys.proofs.InOrder.{take_insert}
 use Rattle.heavy_keys.proofs.Members.{contains_image, contains_split}
@@ -18,58 +18,58 @@ use Rattle.heavy_keys.proofs.RankLemmas.{heavy_low, heavy_none, heavy_ranked, he
 
 module _ (estimate_of : FlowKey → ℤ) (least : ℤ) (most : ℕ) (packets : List Packet) where
   -- before the first packet
-  pub found_none : (lists : List (Vec Candidate)) (firsts : List Rank) → AreParts [] lists → firsts ≡ [] → AreFoundUpTo estimate_of least most packets 0 lists firsts
-  found_none lists firsts none empty = record {
+  pub found_none : (lists : List (Vec Candidate)) (top : List Rank) → AreBuckets [] lists → top ≡ [] → AreFoundUpTo estimate_of least most packets 0 lists top
+  found_none lists top none empty = record {
     others = [];
     theirs = λ key c. absurd (omega (arith, c.1));
     found = record {
       candidates = [];
-      parts = none;
+      buckets = none;
       heavy = heavy_none estimate_of least [] refl;
-      firsts_are = empty ∙ sym (take_all most [] (omega arith));
+      top_are = empty ∙ sym (take_all most [] (omega arith));
       each = λ k d below. absurd (omega arith);
     };
   }
 
   -- one more packet
-  module _ (at : ℕ) (lists : List (Vec Candidate)) (firsts : List Rank) (below : at < length packets) where
+  module _ (at : ℕ) (lists : List (Vec Candidate)) (top : List Rank) (below : at < length packets) where
     -- whose key isn't heavy
-    pub found_low : (keys : List FlowKey) → (least ≤ℤ estimate_of (key_at packets at) → ⊥) → AreFound estimate_of least most packets keys lists firsts
-        → AreFound estimate_of least most packets (keys ++ key_at packets at ∷ []) lists firsts
+    pub found_low : (keys : List FlowKey) → (least ≤ℤ estimate_of (key_at packets at) → ⊥) → AreFound estimate_of least most packets keys lists top
+        → AreFound estimate_of least most packets (keys ++ key_at packets at ∷ []) lists top
     found_low keys low h = record {
       candidates = h.candidates;
-      parts = h.parts;
+      buckets = h.buckets;
       heavy = heavy_low estimate_of least keys (ranks_of estimate_of packets h.candidates) (key_at packets at) h.heavy low;
-      firsts_are = h.firsts_are;
+      top_are = h.top_are;
       each = h.each;
     }
 
     -- that is a candidate
-    pub found_more : (keys : List FlowKey) (estimate : ℤ) (hash : ℕ) (more : List (Vec Candidate)) (next : List Rank) → AreFound estimate_of least most packets keys lists firsts
-        → estimate ≡ estimate_of (key_at packets at) → least ≤ℤ estimate → hash ≡ spread_of (key_at packets at) → ((candidates : List Candidate) → AreParts candidates lists → AreParts (candidates ++ record { spread = hash / 4294967296; place = at } ∷ []) more)
-        → next ≡ take most (insert_key rank_order firsts (rank_of estimate (key_at packets at))) → AreFound estimate_of least most packets (keys ++ key_at packets at ∷ []) more next
-    found_more keys estimate hash more next h its high spreads put offered =
-        let c : Candidate = record { spread = hash / 4294967296; place = at } in
+    pub found_more : (keys : List FlowKey) (estimate : ℤ) (hash : ℕ) (more : List (Vec Candidate)) (next : List Rank) → AreFound estimate_of least most packets keys lists top
+        → estimate ≡ estimate_of (key_at packets at) → least ≤ℤ estimate → hash ≡ fingerprint_of (key_at packets at) → ((candidates : List Candidate) → AreBuckets candidates lists → AreBuckets (candidates ++ record { fingerprint = hash / 4294967296; place = at } ∷ []) more)
+        → next ≡ take most (insert_key rank_order top (flow_rank estimate (key_at packets at))) → AreFound estimate_of least most packets (keys ++ key_at packets at ∷ []) more next
+    found_more keys estimate hash more next h its high fingerprints put offered =
+        let c : Candidate = record { fingerprint = hash / 4294967296; place = at } in
         let k : FlowKey = key_at packets at in
         let grown : List Candidate = h.candidates ++ c ∷ [] in
         let old : List Rank = ranks_of estimate_of packets h.candidates in
-        let ranks : ranks_of estimate_of packets grown ≡ old ++ rank_of estimate k ∷ [] =
-        map-append (λ (x : Candidate). rank_by estimate_of (key_of packets x)) h.candidates (c ∷ []) ∙ ap (λ v. old ++ rank_of v k ∷ []) (sym its) in
-        let whole : in_order (ranks_of estimate_of packets grown) ≡ insert_key rank_order (in_order old) (rank_of estimate k) = ap in_order ranks ∙ fold-append (insert_key rank_order) [] old (rank_of estimate k ∷ []) in
+        let ranks : ranks_of estimate_of packets grown ≡ old ++ flow_rank estimate k ∷ [] =
+        map-append (λ (x : Candidate). rank_by estimate_of (candidate_key packets x)) h.candidates (c ∷ []) ∙ ap (λ v. old ++ flow_rank v k ∷ []) (sym its) in
+        let whole : in_order (ranks_of estimate_of packets grown) ≡ insert_key rank_order (in_order old) (flow_rank estimate k) = ap in_order ranks ∙ fold-append (insert_key rank_order) [] old (flow_rank estimate k ∷ []) in
         record {
           candidates = grown;
-          parts = put h.candidates h.parts;
+          buckets = put h.candidates h.buckets;
           heavy = heavy_ranked estimate_of least keys old k h.heavy estimate (ranks_of estimate_of packets grown) its high ranks;
-          firsts_are = offered ∙ ap (λ l. take most (insert_key rank_order l (rank_of estimate k))) h.firsts_are ∙ take_insert rank_order most (in_order old) (rank_of estimate k) ∙ ap (take most) (sym whole);
-          each = All-push (IsCandidate packets) h.candidates c h.each (record { place = below; spread = ap (λ n. n / 4294967296) spreads });
+          top_are = offered ∙ ap (λ l. take most (insert_key rank_order l (flow_rank estimate k))) h.top_are ∙ take_insert rank_order most (in_order old) (flow_rank estimate k) ∙ ap (take most) (sym whole);
+          each = All-push (IsCandidate packets) h.candidates c h.each (record { place = below; fingerprint = ap (λ n. n / 4294967296) fingerprints });
         }
 
     further : map (λ (p : Packet). p.key) (take (at + 1) packets) ≡ map (λ (p : Packet). p.key) (take at packets) ++ key_at packets at ∷ []
     further = keys_more packets at no_packet below
 
     -- whose key one before has
-    pub next_seen : Contains (map (λ (p : Packet). p.key) (take at packets)) (key_at packets at) → AreFoundUpTo estimate_of least most packets at lists firsts
-        → AreFoundUpTo estimate_of least most packets (at + 1) lists firsts
+    pub next_seen : Contains (map (λ (p : Packet). p.key) (take at packets)) (key_at packets at) → AreFoundUpTo estimate_of least most packets at lists top
+        → AreFoundUpTo estimate_of least most packets (at + 1) lists top
     next_seen there h =
         let front : List FlowKey = map (λ (p : Packet). p.key) (take at packets) in
         record {
@@ -77,18 +77,18 @@ module _ (estimate_of : FlowKey → ℤ) (least : ℤ) (most : ℕ) (packets : L
           theirs = h.theirs;
           found = record {
             candidates = h.found.candidates;
-            parts = h.found.parts;
+            buckets = h.found.buckets;
             heavy = subst (λ keys. AreHeavy estimate_of least keys (ranks_of estimate_of packets h.found.candidates)) (append_assoc h.others front (key_at packets at ∷ []) ∙ ap (λ l. h.others ++ l) (sym further))
                 (heavy_seen estimate_of least (h.others ++ front) (ranks_of estimate_of packets h.found.candidates) (key_at packets at) h.found.heavy (Contains-append_right h.others front (key_at packets at) there));
-            firsts_are = h.found.firsts_are;
+            top_are = h.found.top_are;
             each = h.found.each;
           };
         }
 
     -- that is the next one, or one of the others
-    module _ (more : List (Vec Candidate)) (next : List Rank) (step : (keys : List FlowKey) → AreFound estimate_of least most packets keys lists firsts
+    module _ (more : List (Vec Candidate)) (next : List Rank) (step : (keys : List FlowKey) → AreFound estimate_of least most packets keys lists top
         → AreFound estimate_of least most packets (keys ++ key_at packets at ∷ []) more next) where
-      pub next_found : AreFoundUpTo estimate_of least most packets at lists firsts → AreFoundUpTo estimate_of least most packets (at + 1) more next
+      pub next_found : AreFoundUpTo estimate_of least most packets at lists top → AreFoundUpTo estimate_of least most packets (at + 1) more next
       next_found h =
           let front : List FlowKey = map (λ (p : Packet). p.key) (take at packets) in
           record {
@@ -97,7 +97,7 @@ module _ (estimate_of : FlowKey → ℤ) (least : ℤ) (most : ℕ) (packets : L
             found = subst (λ keys. AreFound estimate_of least most packets keys more next) (append_assoc h.others front (key_at packets at ∷ []) ∙ ap (λ l. h.others ++ l) (sym further)) (step (h.others ++ front) h.found);
           }
 
-      pub other_found : AreFoundUpTo estimate_of least most packets 0 lists firsts → AreFoundUpTo estimate_of least most packets 0 more next
+      pub other_found : AreFoundUpTo estimate_of least most packets 0 lists top → AreFoundUpTo estimate_of least most packets 0 more next
       other_found h = record {
         others = h.others ++ key_at packets at ∷ [];
         theirs = λ key c. elim (contains_split h.others (key_at packets at) key c) [
@@ -108,19 +108,19 @@ module _ (estimate_of : FlowKey → ℤ) (least : ℤ) (most : ℕ) (packets : L
       }
 
   -- when all packets have come
-  pub found_all : (count : ℕ) (lists : List (Vec Candidate)) (firsts : List Rank) → length packets ≤ count → AreFoundUpTo estimate_of least most packets count lists firsts
-      → AreFound estimate_of least most packets (map (λ p. p.key) packets) lists firsts
-  found_all count lists firsts whole h =
+  pub found_all : (count : ℕ) (lists : List (Vec Candidate)) (top : List Rank) → length packets ≤ count → AreFoundUpTo estimate_of least most packets count lists top
+      → AreFound estimate_of least most packets (map (λ p. p.key) packets) lists top
+  found_all count lists top whole h =
       let keys : List FlowKey = map (λ (p : Packet). p.key) packets in
       let all : map (λ (p : Packet). p.key) (take count packets) ≡ keys = ap (map (λ (p : Packet). p.key)) (take_all count packets whole) in
       let heavy : AreHeavy estimate_of least (h.others ++ keys) (ranks_of estimate_of packets h.found.candidates) = subst (λ l. AreHeavy estimate_of least (h.others ++ l) (ranks_of estimate_of packets h.found.candidates)) all h.found.heavy in
       record {
         candidates = h.found.candidates;
-        parts = h.found.parts;
+        buckets = h.found.buckets;
         heavy = record {
           sound = λ rank c. let s = heavy.sound rank c in (elim (Contains-append_cases h.others keys rank.1 s.0) [ inl o ↦ h.theirs rank.1 o | inr k ↦ k ], s.1, s.2);
           whole = λ key c high. heavy.whole key (Contains-append_right h.others keys key c) high;
         };
-        firsts_are = h.found.firsts_are;
+        top_are = h.found.top_are;
         each = h.found.each;
       }

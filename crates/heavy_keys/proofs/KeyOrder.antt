@@ -15,7 +15,7 @@ use Rattle.packet_key.specs.declared.key.FlowKey.{FlowKey}
 use Rattle.packet_key.specs.declared.key.FlowKey.TheVariants.{V4, V6}
 use Rattle.packet_key.specs.contracts.key.FlowKeyOrd.TheImpl.Laws.{matches_eq-law}
 use Rattle.push_history.specs.LiveHeavy.{same_key}
-use Rattle.heavy_keys.specs.FinalHeavy.{key_order, IsBefore}
+use Rattle.heavy_keys.specs.FinalHeavy.{key_cmp, IsBefore}
 use Rattle.heavy_keys.specs.Ranks.{Rank, rank_order, flow_of}
 
 both : (a b : Bool) → (a && b) ≡ true → (a ≡ true) × (b ≡ true)
@@ -43,13 +43,13 @@ has_key packets place d k inside same =
     subst (Contains (map (λ p. p.key) packets)) (one_key (get_or packets place d).key k same)
     (contains_image (λ (p : Packet). p.key) packets (get_or packets place d) (Contains-get_or packets place d inside))
 
-pub exact_key : (a b : FlowKey) → key_order a b ≡ Equal → a ≡ b
+pub exact_key : (a b : FlowKey) → key_cmp a b ≡ Equal → a ≡ b
 exact_key a b h = one_key a b (matches_eq-law a b ∙ ap is_eq h)
 
 pub exact_rank : (a b : Rank) → rank_order a b ≡ Equal → a ≡ b
 exact_rank a b h = by (int_cmp b.0.0 a.0.0) refl h
   where
-    by : (o : Ordering) → int_cmp b.0.0 a.0.0 ≡ o → ordering_then o (key_order a.1 b.1) ≡ Equal → a ≡ b
+    by : (o : Ordering) → int_cmp b.0.0 a.0.0 ≡ o → ordering_then o (key_cmp a.1 b.1) ≡ Equal → a ≡ b
     by Less e g = cc
     by Equal e g = λ i. (record { 0 = sym (exact_signed b.0.0 a.0.0 e) i }, exact_key a.1 b.1 g i)
     by Greater e g = cc
@@ -60,7 +60,7 @@ below x y h = grind arith
 pub before_rank : (a b : Rank) → rank_order a b ≡ Less → IsBefore (flow_of a) (flow_of b)
 before_rank a b h = by (int_cmp b.0.0 a.0.0) refl h
   where
-    by : (o : Ordering) → int_cmp b.0.0 a.0.0 ≡ o → ordering_then o (key_order a.1 b.1) ≡ Less → IsBefore (flow_of a) (flow_of b)
+    by : (o : Ordering) → int_cmp b.0.0 a.0.0 ≡ o → ordering_then o (key_cmp a.1 b.1) ≡ Less → IsBefore (flow_of a) (flow_of b)
     by Less e g = inl (below b.0.0 a.0.0 e)
     by Equal e g = inr (sym (exact_signed b.0.0 a.0.0 e), g)
     by Greater e g = cc

@@ -10,5 +10,5 @@ pub mod Counting
 pub mod Sharing
 pub mod Parting
 pub mod FoundLemmas
-pub mod PartLemmas
+pub mod BucketLemmas
 pub mod HeaviestLemmas

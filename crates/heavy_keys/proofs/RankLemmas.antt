@@ -6,7 +6,7 @@ use Rattle.hash_rows.specs.declared.shape.Flow.{Flow}
 use Rattle.hash_rows.specs.declared.shape.Packet.{Packet}
 use Rattle.std.proofs.Common.{take, ◌+◌}
 use Rattle.heavy_keys.specs.FinalHeavy.{IsBefore, IsFinalHeavy}
-use Rattle.heavy_keys.specs.Ranks.{Rank, rank_of, rank_order, flow_of, AreHeavy}
+use Rattle.heavy_keys.specs.Ranks.{Rank, flow_rank, rank_order, flow_of, AreHeavy}
 use Rattle.std.proofs.lemmas.Map.Keys.{Less-from_sorted}
 use Rattle.std.proofs.Math.ListN.{get_or-map}
 use Rattle.std.proofs.lemmas.List.{length-map, take_more, map-append}
@@ -39,17 +39,17 @@ module _ (estimate_of : FlowKey → ℤ) (least : ℤ) (keys : List FlowKey) (ra
   }
 
   -- that is heavy, and is added
-  pub heavy_ranked : (estimate : ℤ) (more : List Rank) → estimate ≡ estimate_of k → least ≤ℤ estimate → more ≡ ranks ++ rank_of estimate k ∷ []
+  pub heavy_ranked : (estimate : ℤ) (more : List Rank) → estimate ≡ estimate_of k → least ≤ℤ estimate → more ≡ ranks ++ flow_rank estimate k ∷ []
       → AreHeavy estimate_of least (keys ++ k ∷ []) more
   heavy_ranked estimate more its high put = record {
-    sound = λ rank c. elim (contains_split ranks (rank_of estimate k) rank (subst (λ (l : List Rank). Contains l rank) put c)) [
+    sound = λ rank c. elim (contains_split ranks (flow_rank estimate k) rank (subst (λ (l : List Rank). Contains l rank) put c)) [
       | inl e ↦ subst (λ (x : Rank). Contains (keys ++ k ∷ []) x.1 × (x.0.0 ≡ estimate_of x.1) × (least ≤ℤ x.0.0)) e (contains_last keys k, its, high)
       | inr d ↦ sound_more rank d
     ];
-    whole = λ key c up. subst (λ (l : List Rank). Contains l (rank_of (estimate_of key) key)) (sym put) (elim (contains_split keys k key c) [
-      | inl e ↦ subst (λ (x : FlowKey). Contains (ranks ++ rank_of estimate k ∷ []) (rank_of (estimate_of x) x)) e
-          (subst (λ (v : ℤ). Contains (ranks ++ rank_of estimate k ∷ []) (rank_of v k)) its (contains_last ranks (rank_of estimate k)))
-      | inr d ↦ contains_front ranks (rank_of estimate k) (rank_of (estimate_of key) key) (h.whole key d up)
+    whole = λ key c up. subst (λ (l : List Rank). Contains l (flow_rank (estimate_of key) key)) (sym put) (elim (contains_split keys k key c) [
+      | inl e ↦ subst (λ (x : FlowKey). Contains (ranks ++ flow_rank estimate k ∷ []) (flow_rank (estimate_of x) x)) e
+          (subst (λ (v : ℤ). Contains (ranks ++ flow_rank estimate k ∷ []) (flow_rank v k)) its (contains_last ranks (flow_rank estimate k)))
+      | inr d ↦ contains_front ranks (flow_rank estimate k) (flow_rank (estimate_of key) key) (h.whole key d up)
     ]);
   }
 
@@ -58,7 +58,7 @@ pub heavy_alike : (estimate_of : FlowKey → ℤ) (least : ℤ) (keys : List Flo
     → ((rank : Rank) → Contains old rank → Contains new rank) → AreHeavy estimate_of least keys old → AreHeavy estimate_of least keys new
 heavy_alike estimate_of least keys old new less more h = record {
   sound = λ rank c. h.sound rank (less rank c);
-  whole = λ key c high. more (rank_of (estimate_of key) key) (h.whole key c high);
+  whole = λ key c high. more (flow_rank (estimate_of key) key) (h.whole key c high);
 }
 
 -- no key, and so no rank
@@ -74,13 +74,13 @@ pub final_flows : (estimate_of : FlowKey → ℤ) (least : ℤ) (keys : List Flo
 final_flows estimate_of least keys ranks flows are sorted h = subst (IsFinalHeavy estimate_of least keys) (sym are) (record {
   sorted = λ i j d lt below.
       let inside : j < length ranks = omega (arith, length-map ranks flow_of) in
-      let r : Rank = rank_of d.estimate d.key in
+      let r : Rank = flow_rank d.estimate d.key in
       let less = Less-from_sorted rank_order ranks i j r sorted lt inside in
       subst (λ (x : Flow). IsBefore x (get_or (map flow_of ranks) j d)) (sym (get_or-map flow_of ranks i r))
       (subst (λ (x : Flow). IsBefore (flow_of (get_or ranks i r)) x) (sym (get_or-map flow_of ranks j r)) (before_rank (get_or ranks i r) (get_or ranks j r) less));
   sound = λ flow c. let m = contains_map flow_of ranks flow c in
       subst (λ (x : Flow). Contains keys x.key × (x.estimate ≡ estimate_of x.key) × (least ≤ℤ x.estimate)) m.2 (h.sound m.0 m.1);
-  whole = λ key c high. contains_image flow_of ranks (rank_of (estimate_of key) key) (h.whole key c high);
+  whole = λ key c high. contains_image flow_of ranks (flow_rank (estimate_of key) key) (h.whole key c high);
 })
 
 -- the keys of the packets, with one more packet

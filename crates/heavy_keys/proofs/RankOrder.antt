@@ -13,7 +13,7 @@ use Rattle.std.proofs.lemmas.List.Sorted.{Contains-permutation, IsPermutation-sy
 use Rattle.packet_key.specs.contracts.key.FlowKeyEq.TheImpl.Laws.{laws-law}
 use Rattle.packet_key.specs.contracts.key.FlowKeyOrd.TheImpl.Laws.{matches_eq-law, total-law}
 use Rattle.push_history.specs.LiveHeavy.{same_key}
-use Rattle.heavy_keys.specs.FinalHeavy.{key_order}
+use Rattle.heavy_keys.specs.FinalHeavy.{key_cmp}
 use Rattle.heavy_keys.specs.Ranks.{Rank, rank_order}
 use Rattle.heavy_keys.proofs.KeyOrder.{exact_rank}
 
@@ -24,10 +24,10 @@ int_ties : (x y : ℤ) → int_eq x y ≡ is_eq (int_cmp y x)
 int_ties x y = grind arith
 
 pub ties : (a b : Rank) → same_rank a b ≡ eq_by_cmp rank_order a b
-ties a b = ap₂ (λ x y. x && y) (int_ties a.0.0 b.0.0) (matches_eq-law a.1 b.1) ∙ tied_then (int_cmp b.0.0 a.0.0) (key_order a.1 b.1)
+ties a b = ap₂ (λ x y. x && y) (int_ties a.0.0 b.0.0) (matches_eq-law a.1 b.1) ∙ tied_then (int_cmp b.0.0 a.0.0) (key_cmp a.1 b.1)
 
 pub total : IsTotalOrder rank_order
-total = then_total {R = λ a b. int_cmp b.0.0 a.0.0} {S = λ a b. key_order a.1 b.1} (on_total (λ (r : Rank). r.0.0) (back_total int_cmp_total)) (on_total (λ (r : Rank). r.1) total-law)
+total = then_total {R = λ a b. int_cmp b.0.0 a.0.0} {S = λ a b. key_cmp a.1 b.1} (on_total (λ (r : Rank). r.0.0) (back_total int_cmp_total)) (on_total (λ (r : Rank). r.1) total-law)
 
 alike : IsEquivalence same_rank
 alike = and_equiv (on_equiv (λ (r : Rank). r.0.0) int_eq_equiv) (on_equiv (λ (r : Rank). r.1) laws-law)

@@ -6,11 +6,12 @@ use Rattle.std.specs.List.{All}
 use Rattle.packet_key.specs.declared.key.FlowKey.{FlowKey}
 use Rattle.packet_key.specs.declared.key.FlowKey.TheVariants.{V4}
 use Rattle.hash_rows.specs.declared.shape.Packet.{Packet}
-use Rattle.heavy_keys.specs.Ranks.{AreHeavy, Rank, rank_of, rank_order}
-use Rattle.heavy_keys.specs.Parts.{AreParts}
-use Rattle.heavy_keys.specs.Spread.{spread_of}
+use Rattle.heavy_keys.specs.Ranks.{AreHeavy, Rank, flow_rank, rank_order}
+use Rattle.heavy_keys.specs.Buckets.{AreBuckets}
+use Rattle.heavy_keys.specs.Fingerprints.{fingerprint_of}
 use Rattle.heavy_keys.specs.declared.candidates.Candidate.{Candidate}
 
+-- what a list of packets shows past its end
 abbrev pub no_packet : Packet
 no_packet = record { key = V4 0 0 0 0 0; amount = 0 }
 
@@ -19,20 +20,21 @@ abbrev pub key_at : List Packet → ℕ → FlowKey
 key_at packets place = (slice_index_or packets place no_packet).key
 
 -- the key of the packet at the candidate's place
-abbrev pub key_of : List Packet → Candidate → FlowKey
-key_of packets candidate = key_at packets candidate.place
+abbrev pub candidate_key : List Packet → Candidate → FlowKey
+candidate_key packets candidate = key_at packets candidate.place
 
--- the candidate's place is that of a packet, and its spread is that of the packet's key
+-- the candidate's place is that of a packet, and its fingerprint is that of the packet's key
 pub record IsCandidate (packets : List Packet) (candidate : Candidate) : Type 0 where
   pub place : candidate.place < length packets
-  pub spread : candidate.spread ≡ spread_of (key_of packets candidate) / 4294967296
+  pub fingerprint : candidate.fingerprint ≡ fingerprint_of (candidate_key packets candidate) / 4294967296
 
+-- its rank with its estimate
 abbrev pub rank_by : (FlowKey → ℤ) → FlowKey → Rank
-rank_by estimate_of key = rank_of (estimate_of key) key
+rank_by estimate_of key = flow_rank (estimate_of key) key
 
 -- the ranks of the candidates' keys
 abbrev pub ranks_of : (FlowKey → ℤ) → List Packet → List Candidate → List Rank
-ranks_of estimate_of packets candidates = map (λ candidate. rank_by estimate_of (key_of packets candidate)) candidates
+ranks_of estimate_of packets candidates = map (λ candidate. rank_by estimate_of (candidate_key packets candidate)) candidates
 
 -- the ranks in order, each once
 abbrev pub in_order : List Rank → List Rank
@@ -40,15 +42,15 @@ in_order ranks = fold (insert_key rank_order) [] ranks
 
 -- the heavy ones of these keys are those of the candidates in the lists, in the order in which they were found, and
 -- the first of their ranks are known
-pub record AreFound (estimate_of : FlowKey → ℤ) (least : ℤ) (most : ℕ) (packets : List Packet) (keys : List FlowKey) (lists : List (Vec Candidate)) (firsts : List Rank) : Type 0 where
+pub record AreFound (estimate_of : FlowKey → ℤ) (least : ℤ) (most : ℕ) (packets : List Packet) (keys : List FlowKey) (lists : List (Vec Candidate)) (top : List Rank) : Type 0 where
   pub candidates : List Candidate
-  pub parts : AreParts candidates lists
+  pub buckets : AreBuckets candidates lists
   pub heavy : AreHeavy estimate_of least keys (ranks_of estimate_of packets candidates)
-  pub firsts_are : firsts ≡ take most (in_order (ranks_of estimate_of packets candidates))
+  pub top_are : top ≡ take most (in_order (ranks_of estimate_of packets candidates))
   pub each : All (IsCandidate packets) candidates
 
 -- the same of the first packets, and of some others that were weighed before
-pub record AreFoundUpTo (estimate_of : FlowKey → ℤ) (least : ℤ) (most : ℕ) (packets : List Packet) (count : ℕ) (lists : List (Vec Candidate)) (firsts : List Rank) : Type 0 where
+pub record AreFoundUpTo (estimate_of : FlowKey → ℤ) (least : ℤ) (most : ℕ) (packets : List Packet) (count : ℕ) (lists : List (Vec Candidate)) (top : List Rank) : Type 0 where
   pub others : List FlowKey
   pub theirs : (key : FlowKey) → Contains others key → Contains (map (λ p. p.key) packets) key
-  pub found : AreFound estimate_of least most packets (others ++ map (λ p. p.key) (take count packets)) lists firsts
+  pub found : AreFound estimate_of least most packets (others ++ map (λ p. p.key) (take count packets)) lists top

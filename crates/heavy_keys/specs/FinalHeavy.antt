@@ -7,12 +7,12 @@ use Rattle.packet_key.specs.contracts.key.FlowKeyOrd.TheImpl as order
 use Rattle.hash_rows.specs.declared.shape.Flow.{Flow}
 
 -- the order of keys
-abbrev pub key_order : FlowKey → FlowKey → Ordering
-key_order = (order.ghosts).cmp
+abbrev pub key_cmp : FlowKey → FlowKey → Ordering
+key_cmp = (order.ghosts).cmp
 
 -- the greater estimate is before the lesser; of equal ones, the lesser key is before the greater
 abbrev pub IsBefore : Flow → Flow → Type 0
-IsBefore a b = (b.estimate <ℤ a.estimate) ⊎ ((a.estimate ≡ b.estimate) × (key_order a.key b.key ≡ Less))
+IsBefore a b = (b.estimate <ℤ a.estimate) ⊎ ((a.estimate ≡ b.estimate) × (key_cmp a.key b.key ≡ Less))
 
 -- the flows are in order, and they are the keys whose estimate is at least `least`, each once with its estimate
 pub record IsFinalHeavy (estimate_of : FlowKey → ℤ) (least : ℤ) (keys : List FlowKey) (flows : List Flow) : Type 0 where

@@ -1,5 +1,6 @@
 -- What a table of heavy keys becomes as keys are noted in it.
-use Rattle.std.specs.Prelude.{ℕ, ◌+◌, ◌&&◌, ℤ, Bool, List, [], ◌∷◌, ◌++◌, length, min, nat_lt, int_le, not, if◌then◌else◌}
+use Rattle.std.specs.Prelude.{ℕ, ◌&&◌, ℤ, Bool, List, [], ◌∷◌, ◌++◌, length, nat_lt, int_le, not, if◌then◌else◌}
+use Rattle.flow_base.specs.Calls.{one_more}
 use Rattle.packet_key.specs.declared.key.FlowKey.{FlowKey}
 use Rattle.push_history.specs.LiveHeavy.{is_among}
 
@@ -10,10 +11,6 @@ pub record HeavyTable : Type 0 where
   pub missed : ℕ
   pub limit : ℕ
   pub least : ℤ
-
--- one more, where a number of 64 bits has it
-abbrev pub one_more : ℕ → ℕ
-one_more count = min (count + 1) 18446744073709551615
 
 -- whether a key with this estimate is heavy and isn't there yet
 abbrev pub is_due : HeavyTable → FlowKey → ℤ → Bool

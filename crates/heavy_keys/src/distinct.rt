@@ -1,13 +1,13 @@
 ghost use Rattle.std.specs.Prelude.{◌≡◌, ◌<◌, ◌≤◌, ◌++◌, ◌∷◌, [], ℕ, OnOk, not, true, length, map, sum_by, filter, count_by, All, IfOk, slice_set};
 ghost use Rattle.std.specs.Global.{Vec};
 ghost use Rattle.std.specs.Set.{distinct_count};
-ghost use Rattle.heavy_keys.specs.Candidates.{IsCandidate, key_of};
+ghost use Rattle.heavy_keys.specs.Candidates.{IsCandidate, candidate_key};
 ghost use Rattle.heavy_keys.specs.SharedBits.{AreShared, bit_of, is_set, is_shared};
 ghost use Rattle.heavy_keys.specs.declared.candidates.Candidate.{Candidate};
 ghost use Rattle.push_history.specs.LiveHeavy.{same_key};
 
+use crate::buckets::{Buckets, push};
 use crate::candidates::Candidate;
-use crate::parts::{Parts, push};
 use flow_base::NoMemory;
 use hash_rows::{Bits, Packet};
 use packet_key::FlowKey;
@@ -22,12 +22,16 @@ struct Parted {
 
 /// The numbers of different keys of the lists, added up. A sum that is too large is of more
 /// candidates than memory has room for.
-pub fn distinct_in_parts(alloc: Global, packets: &[Packet], parts: &Parts) -> Result<u64, NoMemory>
-    requires { All (λ (list : Vec Candidate). All (IsCandidate packets.now) list.items) parts.now.lists.items }
-    ensures { IfOk result (λ count. count ≡ sum_by (λ (list : Vec Candidate). distinct_count same_key (map (key_of packets.now) list.items)) parts.now.lists.items) }
+pub fn distinct_in_buckets(
+    alloc: Global,
+    packets: &[Packet],
+    buckets: &Buckets,
+) -> Result<u64, NoMemory>
+    requires { All (λ (list : Vec Candidate). All (IsCandidate packets.now) list.items) buckets.now.lists.items }
+    ensures { IfOk result (λ count. count ≡ sum_by (λ (list : Vec Candidate). distinct_count same_key (map (candidate_key packets.now) list.items)) buckets.now.lists.items) }
 {
     let mut total = 0_u64;
-    for list in &parts.lists {
+    for list in &buckets.lists {
         let count = distinct_keys(alloc, packets, list)?;
         let Some(sum) = total.checked_add(count) else {
             return Err(NoMemory);
@@ -45,7 +49,7 @@ fn distinct_keys(
     candidates: &[Candidate],
 ) -> Result<u64, NoMemory>
     requires { All (IsCandidate packets.now) candidates.now }
-    ensures { IfOk result (λ count. count ≡ distinct_count same_key (map (key_of packets.now) candidates.now)) }
+    ensures { IfOk result (λ count. count ≡ distinct_count same_key (map (candidate_key packets.now) candidates.now)) }
 {
     if candidates.is_empty() {
         return Ok(0);
@@ -63,19 +67,19 @@ fn bits_for(count: usize) -> u32
     (count.min(4194304) as u32 * 32).max(1024)
 }
 
-// The bit of a candidate. The top five bits of its spread are those of the others in its list, so
+// The bit of a candidate. The top five bits of its fingerprint are those of the others in its list, so
 // that the bits below them tell candidates apart.
 #[inline(always)]
 #[tactic(auto, unfolding(crate::specs::SharedBits::bit_of))]
-fn bit_in(spread: u32, len: u32) -> u32
+fn bit_in(fingerprint: u32, len: u32) -> u32
     requires { 0 < len }
-    ensures bit { result ≡ bit_of spread len }
+    ensures bit { result ≡ bit_of fingerprint len }
     ensures within { result < len }
 {
-    (u64::from(spread) * 32 % 4294967296 * u64::from(len) / 4294967296) as u32
+    (u64::from(fingerprint) * 32 % 4294967296 * u64::from(len) / 4294967296) as u32
 }
 
-// Bits of which those are set whose spread two of the candidates have. Few are, so that fewer bits
+// Bits of which those are set whose fingerprint two of the candidates have. Few are, so that fewer bits
 // serve for them than for all that were touched, and those are found sooner.
 fn shared_bits(alloc: Global, candidates: &[Candidate]) -> Result<Bits, NoMemory>
     ensures some { IfOk result (λ bits. 0 < length bits) }
@@ -85,25 +89,25 @@ fn shared_bits(alloc: Global, candidates: &[Candidate]) -> Result<Bits, NoMemory
     let mut touched = Bits::new(alloc, len)?;
     let mut shared = Bits::new(alloc, len / 8)?;
     for candidate in candidates {
-        touch(&mut touched, &mut shared, candidate.spread);
+        touch(&mut touched, &mut shared, candidate.fingerprint);
     }
     Ok(shared)
 }
 
-// Sets the bit of the spread in the first, and where it is set there already, that in the second.
+// Sets the bit of the fingerprint in the first, and where it is set there already, that in the second.
 #[inline(always)]
-fn touch(touched: &mut Bits, shared: &mut Bits, spread: u32)
+fn touch(touched: &mut Bits, shared: &mut Bits, fingerprint: u32)
     requires touched { 0 < length touched.old }
     requires shared { 0 < length shared.old }
-    ensures inside { bit_of spread (length touched.old) < length touched.old }
-    ensures touched { touched.new ≡ slice_set touched.old (bit_of spread (length touched.old)) true }
-    ensures again { is_set touched.old (bit_of spread (length touched.old)) ≡ true → is_set shared.new (bit_of spread (length shared.old)) ≡ true }
+    ensures inside { bit_of fingerprint (length touched.old) < length touched.old }
+    ensures touched { touched.new ≡ slice_set touched.old (bit_of fingerprint (length touched.old)) true }
+    ensures again { is_set touched.old (bit_of fingerprint (length touched.old)) ≡ true → is_set shared.new (bit_of fingerprint (length shared.old)) ≡ true }
     ensures kept { (place : ℕ) → is_set shared.old place ≡ true → is_set shared.new place ≡ true }
     ensures length { length shared.new ≡ length shared.old }
 {
-    let bit = bit_in(spread, touched.len());
+    let bit = bit_in(fingerprint, touched.len());
     if touched.get(bit) {
-        shared.set(bit_in(spread, shared.len()));
+        shared.set(bit_in(fingerprint, shared.len()));
     }
     touched.set(bit);
 }
@@ -117,7 +121,7 @@ fn part(alloc: Global, candidates: &[Candidate], shared: &Bits) -> Result<Parted
     let mut lone = 0;
     let mut rest = Vec::new(alloc);
     for candidate in candidates {
-        if shared.get(bit_in(candidate.spread, shared.len())) {
+        if shared.get(bit_in(candidate.fingerprint, shared.len())) {
             push(&mut rest, *candidate)?;
         } else {
             lone += 1;
@@ -134,7 +138,7 @@ fn keys_of(
     candidates: &[Candidate],
 ) -> Result<Vec<FlowKey>, NoMemory>
     requires { All (IsCandidate packets.now) candidates.now }
-    ensures { IfOk result (λ keys. keys.items ≡ map (key_of packets.now) candidates.now) }
+    ensures { IfOk result (λ keys. keys.items ≡ map (candidate_key packets.now) candidates.now) }
 {
     let mut keys = Vec::new(alloc);
     for candidate in candidates {

@@ -2,10 +2,10 @@ ghost use Rattle.std.specs.Prelude.{map, IfOk};
 ghost use Rattle.heavy_keys.specs.FinalHeavy.{AreHeaviest};
 
 use crate::candidates::{Found, find};
-use crate::distinct::distinct_in_parts;
-use crate::firsts::flows_of;
+use crate::distinct::distinct_in_buckets;
+use crate::top_flows::flows_of;
 use flow_base::NoMemory;
-use hash_rows::{Flows, Kind, Packet, Table};
+use hash_rows::{Estimates, Flows, Packet};
 use std::alloc::Global;
 
 /// How many flows are heavy, and the first of them.
@@ -16,18 +16,19 @@ pub struct HeaviestFlows {
 }
 
 /// The number of distinct keys of the packets whose estimate is at least `least`, and the first of
-/// them, at most `most`: by estimate downwards, equal ones by key upwards.
-pub fn heaviest<K: Kind>(
+/// them, at most `most`: by estimate downwards, equal ones by key upwards. The estimates are those of
+/// a table, or of anything else that has one for each key.
+pub fn heaviest<E: Estimates>(
     alloc: Global,
     packets: &[Packet],
-    table: &Table<K>,
+    estimates: &E,
     least: i64,
     most: u32,
 ) -> Result<HeaviestFlows, NoMemory>
-    ensures { IfOk result (λ h. AreHeaviest (K.rules.estimate table.now.shape table.now.cells) least (map (λ p. p.key) packets.now) most h.count h.flows.items) }
+    ensures { IfOk result (λ h. AreHeaviest (E.estimate_of estimates.now) least (map (λ p. p.key) packets.now) most h.count h.flows.items) }
 {
-    let Found { parts, firsts, .. } = find(alloc, packets, table, least, most)?;
-    let count = distinct_in_parts(alloc, packets, &parts)?;
-    let flows = flows_of(alloc, firsts)?;
+    let Found { buckets, top, .. } = find(alloc, packets, estimates, least, most)?;
+    let count = distinct_in_buckets(alloc, packets, &buckets)?;
+    let flows = flows_of(alloc, top)?;
     Ok(HeaviestFlows { count, flows })
 }

@@ -5,12 +5,11 @@ ghost use Rattle.heavy_keys.specs.Live.{HoldsLive};
 ghost use Rattle.hash_rows.specs.declared.shape.Flow.{Flow};
 ghost use Rattle.push_history.specs.LiveHeavy.{is_among};
 
-use crate::flow_keys::is_same_key;
-use crate::recent::{SLOTS, slot_of};
+use crate::cache::{SLOTS, slot_of};
 use flow_base::NoMemory;
 use indexmap::IndexMap;
 use listed::Listed;
-use packet_key::FlowKey;
+use packet_key::{FlowKey, same_key};
 use std::alloc::Global;
 use std::marker::Model;
 
@@ -92,7 +91,7 @@ impl Heavy {
     {
         let place = *self.slots.get(slot_of(key));
         match self.keys.get_index(place as usize) {
-            Some((known, _)) => is_same_key(known, key),
+            Some((known, _)) => same_key(known, key),
             None => false,
         }
     }

@@ -2,17 +2,17 @@
 //! of the whole capture.
 #![tactic(auto)]
 
+mod buckets;
+mod cache;
 mod candidates;
 mod distinct;
-mod firsts;
 mod flow_keys;
 mod heaviest_flows;
 mod heavy;
-mod parts;
 mod ranks;
-mod recent;
 #[cfg(test)]
 mod tests;
+mod top_flows;
 
 pub use heaviest_flows::{HeaviestFlows, heaviest};
 pub use heavy::Heavy;

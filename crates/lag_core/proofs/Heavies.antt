@@ -5,7 +5,8 @@ use Rattle.packet_key.specs.declared.key.FlowKey.{FlowKey}
 use Rattle.hash_rows.specs.declared.shape.Push.{Push}
 use Rattle.hash_rows.specs.declared.shape.Shape.{Shape}
 use Rattle.hash_rows.specs.Rules.{Rules}
-use Rattle.heavy_keys.specs.Noted.{HeavyTable, noted, is_due, one_more}
+use Rattle.flow_base.specs.Calls.{one_more}
+use Rattle.heavy_keys.specs.Noted.{HeavyTable, noted, is_due}
 use Rattle.heavy_keys.specs.Live.{HoldsLive}
 use Rattle.heavy_keys.proofs.LiveLemmas.{holds_noted}
 use Rattle.push_history.specs.LiveHeavy.{live_keys, missed_keys, notes_of, live_of, missed_of}

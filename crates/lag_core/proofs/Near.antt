@@ -7,16 +7,16 @@ use Rattle.push_history.specs.Front.{front_of}
 use Rattle.push_history.specs.LagRun.{State}
 use Rattle.push_history.specs.Shown.{shown_cells}
 use Rattle.push_history.proofs.RunLaws.{run_lawful}
-use Rattle.fold_law.specs.Bracket.{AreAmounts, IsNear}
-use Rattle.fold_law.proofs.Bracketed.{are_plain}
-use Rattle.fold_law.proofs.Counted.{front_within, near_at}
+use Rattle.bracket.specs.Bracket.{AreAmounts, IsNear}
+use Rattle.bracket.proofs.Bracketed.{are_plain}
+use Rattle.bracket.proofs.Counted.{front_within, near_at}
 use Rattle.fold_law.proofs.Sums.{count_min}
-use Rattle.lag_core.specs.Lags.{Core, refused_by_each, sent_by_each, shown_messages, state_after, workers_of}
+use Rattle.lag_core.specs.Lags.{Core, refused_by_each, sent_by_each, shown_messages, run_state, workers_of}
 use Rattle.lag_core.specs.Workers.{terms_of}
 
 module _ {H : Type 0} (r : Rules) (v : Core H) (events : List Event) (rules : r ≡ count_min) (amounts : AreAmounts v.limits.updates) where
   abbrev state : State
-  state = state_after r v events
+  state = run_state r v events
 
   abbrev shown_front : List ℕ
   shown_front = front_of (workers_of v) (shown_messages state)

@@ -74,8 +74,8 @@ IsWithin workers readers Publish = Unit {0}
 IsWithin workers readers (Ask q) = q < readers
 
 -- the core has run these events
-abbrev pub StandsFor : {Held : Type 0} → (Held → ℤ → ℤ → Type 0) → Rules → Core Held → List Event → Type 0
-StandsFor stands r v events = IsCoreAt stands r v (lag_run (terms_of r v.limits) (length v.seen) events)
+abbrev pub HasRun : {Held : Type 0} → (Held → ℤ → ℤ → Type 0) → Rules → Core Held → List Event → Type 0
+HasRun stands r v events = IsCoreAt stands r v (lag_run (terms_of r v.limits) (length v.seen) events)
 
 -- wherever the old core is at a state, the new one is at the state that the event makes of it, with its reply
 pub record Steps {Held : Type 0} (stands : Held → ℤ → ℤ → Type 0) (r : Rules) (old new : Core Held) (e : Event) (reply : Reply) : Type 0 where
@@ -88,8 +88,8 @@ pub record Steps {Held : Type 0} (stands : Held → ℤ → ℤ → Type 0) (r :
       → IsCoreAt stands r new (lag_step (terms_of r old.limits) s e).0 × (reply ≡ (lag_step (terms_of r old.limits) s e).1)
 
 -- the state after these events
-abbrev pub state_after : {Held : Type 0} → Rules → Core Held → List Event → State
-state_after r v events = lag_run (terms_of r v.limits) (length v.seen) events
+abbrev pub run_state : {Held : Type 0} → Rules → Core Held → List Event → State
+run_state r v events = lag_run (terms_of r v.limits) (length v.seen) events
 
 -- the messages that are shown
 abbrev pub shown_messages : State → List Push

@@ -20,6 +20,7 @@ pub record Limits : Type 0 where
   pub full : Full
   pub updates : List (List Update)
 
+-- with it
 abbrev pub terms_of : Rules → Limits → Terms
 terms_of r l = record { rules = r; threshold = l.threshold; capacity = l.capacity; full = l.full; updates = l.updates }
 

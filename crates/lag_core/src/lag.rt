@@ -68,8 +68,7 @@ impl<K: Kind> Lag<K> {
     ghost use Rattle.push_history.specs.declared.event.Event.TheVariants.{Update, Take, Publish, Ask};
     ghost use Rattle.push_history.specs.LagRun.{reply_to};
     ghost use Rattle.lag_core.specs.Workers.{terms_of};
-    ghost use Rattle.lag_core.specs.Lags.{StandsFor, Steps, IsWithin, state_after, workers_of};
-    ghost use Rattle.lag_core.specs.Laws.{Conserves, IsLawful};
+    ghost use Rattle.lag_core.specs.Lags.{HasRun, Steps, IsWithin, workers_of};
 
     /// A run in which nothing has happened: a worker for each list of updates, lanes of so many
     /// messages, a live table of `heavy` keys whose estimate is at least `least`, and so many readers.
@@ -89,15 +88,11 @@ impl<K: Kind> Lag<K> {
         requires heavy { (1 ≤ heavy) × (heavy ≤ 1024) }
         requires cells { All (λ row. All (λ u. u.cell < size_of shape) row.items) updates.items }
         requires values { All (λ row. HoldValues K.rules row.items) updates.items }
-        ensures fresh { IfOk result (λ lag. StandsFor K.stands K.rules lag []) }
+        ensures fresh { IfOk result (λ lag. HasRun K.stands K.rules lag []) }
         ensures shape { IfOk result (λ lag. lag.shape ≡ shape) }
         ensures limits { IfOk result (λ lag. lag.limits ≡ record { threshold = threshold; capacity = capacity; full = full; updates = map (λ row. row.items) updates.items }) }
         ensures readers { IfOk result (λ lag. length lag.seen ≡ readers) }
         ensures heavy { IfOk result (λ lag. (lag.heavy.limit ≡ heavy) × (lag.heavy.least ≡ least)) }
-        ensures lawful { IfOk result (λ lag. (events : List Event) → StandsFor K.stands K.rules lag events →
-            IsLawful (terms_of K.rules lag.limits) (state_after K.rules lag events)) }
-        ensures conserves { IfOk result (λ lag. (events : List Event) → StandsFor K.stands K.rules lag events →
-            Conserves (terms_of K.rules lag.limits) (state_after K.rules lag events)) }
     {
         let workers = updates.len();
         let (sketches, lanes) = new_workers::<K>(alloc, &shape, threshold, capacity, &updates)?;
@@ -129,13 +124,9 @@ impl<K: Kind> Lag<K> {
         ensures readers { length self.new.seen ≡ length self.old.seen }
         ensures shape { self.new.shape ≡ self.old.shape }
         ensures heavy { (self.new.heavy.limit ≡ self.old.heavy.limit) × (self.new.heavy.least ≡ self.old.heavy.least) }
-        ensures stands { (events : List Event) → StandsFor K.stands K.rules self.old events →
-            StandsFor K.stands K.rules self.new (events ++ event ∷ []) ×
+        ensures stands { (events : List Event) → HasRun K.stands K.rules self.old events →
+            HasRun K.stands K.rules self.new (events ++ event ∷ []) ×
             (result ≡ reply_to (terms_of K.rules self.old.limits) (length self.old.seen) events event) }
-        ensures lawful { (events : List Event) → StandsFor K.stands K.rules self.new events →
-            IsLawful (terms_of K.rules self.new.limits) (state_after K.rules self.new events) }
-        ensures conserves { (events : List Event) → StandsFor K.stands K.rules self.new events →
-            Conserves (terms_of K.rules self.new.limits) (state_after K.rules self.new events) }
     {
         self.run(event)
     }

@@ -1,7 +1,7 @@
 ghost use Rattle.std.specs.Prelude.{◌≡◌, ◌<◌, ◌≤◌, ◌-◌, List, length, min, take, slice_get, slice_index_or, Some};
 ghost use Rattle.hash_rows.specs.Shapes.{size_of};
 ghost use Rattle.push_history.specs.declared.event.Event.{Event};
-ghost use Rattle.fold_law.specs.Bracket.{AreAmounts, IsNear};
+ghost use Rattle.bracket.specs.Bracket.{AreAmounts, IsNear};
 ghost use Rattle.hash_rows.specs.declared.options.Sketch.TheVariants.{CountMin};
 ghost use Rattle.push_history.specs.Front.{front_of, uptos_of};
 ghost use Rattle.push_history.specs.LagRun.{updates_by, worker_in};
@@ -10,7 +10,7 @@ ghost use Rattle.push_history.specs.Pushes.{is_refused};
 ghost use Rattle.push_history.specs.Residue.{residue};
 ghost use Rattle.push_history.specs.Shown.{shown_of, shown_cells};
 ghost use Rattle.lag_core.specs.Workers.{terms_of};
-ghost use Rattle.lag_core.specs.Lags.{StandsFor, refused_by_each, sent_by_each, shown_messages, state_after, workers_of};
+ghost use Rattle.lag_core.specs.Lags.{HasRun, refused_by_each, sent_by_each, shown_messages, run_state, workers_of};
 
 use crate::lag::Lag;
 use hash_rows::Kind;
@@ -20,7 +20,7 @@ impl<K: Kind> Lag<K> {
     /// The shown value of a cell.
     pub fn shown(&self, cell: u32) -> i64
         requires { cell < size_of self.now.shape }
-        ensures { (events : List Event) → StandsFor K.stands K.rules self.now events → let s = state_after K.rules self.now events in
+        ensures { (events : List Event) → HasRun K.stands K.rules self.now events → let s = run_state K.rules self.now events in
             result ≡ shown_of K.rules (sent_by_each s) (front_of (workers_of self.now) (shown_messages s)) cell }
     {
         self.shown.cell(cell)
@@ -29,9 +29,9 @@ impl<K: Kind> Lag<K> {
     /// What is shown of a key. For Count-Min it is near what would be, had all matching updates been told.
     pub fn estimate(&self, key: &FlowKey) -> i64
         ensures near { K.sketch ≡ CountMin → AreAmounts self.now.limits.updates →
-            (events : List Event) → StandsFor K.stands K.rules self.now events → let s = state_after K.rules self.now events in
+            (events : List Event) → HasRun K.stands K.rules self.now events → let s = run_state K.rules self.now events in
             IsNear self.now.limits.threshold self.now.limits.updates (sent_by_each s) (refused_by_each s) (front_of (workers_of self.now) (shown_messages s)) self.now.shape key.now result }
-        ensures shown { (events : List Event) → StandsFor K.stands K.rules self.now events → let s = state_after K.rules self.now events in
+        ensures shown { (events : List Event) → HasRun K.stands K.rules self.now events → let s = run_state K.rules self.now events in
             result ≡ K.rules.estimate self.now.shape (shown_cells K.rules self.now.shape (sent_by_each s) (front_of (workers_of self.now) (shown_messages s))) key.now }
     {
         K::estimate(&self.shape, self.shown.cells(), key)
@@ -40,7 +40,7 @@ impl<K: Kind> Lag<K> {
     /// How many messages of the worker are shown.
     pub fn front(&self, worker: u32) -> u64
         requires { worker < workers_of self.now }
-        ensures { (events : List Event) → StandsFor K.stands K.rules self.now events → let s = state_after K.rules self.now events in
+        ensures { (events : List Event) → HasRun K.stands K.rules self.now events → let s = run_state K.rules self.now events in
             result ≡ slice_index_or (front_of (workers_of self.now) (shown_messages s)) worker 0 }
     {
         *self.shown.front().get(worker)
@@ -49,7 +49,7 @@ impl<K: Kind> Lag<K> {
     /// One more than the last shown update of the worker, 0 where there is none.
     pub fn upto(&self, worker: u32) -> u64
         requires { worker < workers_of self.now }
-        ensures { (events : List Event) → StandsFor K.stands K.rules self.now events → let s = state_after K.rules self.now events in
+        ensures { (events : List Event) → HasRun K.stands K.rules self.now events → let s = run_state K.rules self.now events in
             result ≡ slice_index_or (uptos_of (workers_of self.now) (shown_messages s)) worker 0 }
     {
         self.shown.upto(worker)
@@ -59,9 +59,9 @@ impl<K: Kind> Lag<K> {
     pub fn seen(&self, reader: u32, worker: u32) -> u64
         requires reader { reader < length self.now.seen }
         requires worker { worker < workers_of self.now }
-        ensures front { (events : List Event) → StandsFor K.stands K.rules self.now events → let s = state_after K.rules self.now events in
+        ensures front { (events : List Event) → HasRun K.stands K.rules self.now events → let s = run_state K.rules self.now events in
             result ≡ slice_index_or (front_of (workers_of self.now) (take (slice_index_or s.seen reader 0) s.folded)) worker 0 }
-        ensures shown { (events : List Event) → StandsFor K.stands K.rules self.now events → let s = state_after K.rules self.now events in
+        ensures shown { (events : List Event) → HasRun K.stands K.rules self.now events → let s = run_state K.rules self.now events in
             slice_index_or s.seen reader 0 ≤ s.shown }
     {
         *self.seen[reader as usize].get(worker)
@@ -70,7 +70,7 @@ impl<K: Kind> Lag<K> {
     /// How many messages the worker's lane holds.
     pub fn queued(&self, worker: u32) -> u32
         requires { worker < workers_of self.now }
-        ensures { (events : List Event) → StandsFor K.stands K.rules self.now events → let x = worker_in (state_after K.rules self.now events) worker in
+        ensures { (events : List Event) → HasRun K.stands K.rules self.now events → let x = worker_in (run_state K.rules self.now events) worker in
             result ≡ length x.sent - x.taken }
     {
         self.lanes[worker as usize].len()
@@ -80,7 +80,7 @@ impl<K: Kind> Lag<K> {
     pub fn residue(&self, worker: u32, cell: u32) -> i64
         requires worker { worker < workers_of self.now }
         requires cell { cell < size_of self.now.shape }
-        ensures { (events : List Event) → StandsFor K.stands K.rules self.now events → let x = worker_in (state_after K.rules self.now events) worker in
+        ensures { (events : List Event) → HasRun K.stands K.rules self.now events → let x = worker_in (run_state K.rules self.now events) worker in
             result ≡ residue K.rules (updates_by (terms_of K.rules self.now.limits) worker) x.sent x.counted cell }
     {
         self.sketches[worker as usize].residue(cell)
@@ -90,7 +90,7 @@ impl<K: Kind> Lag<K> {
     pub fn refused_at(&self, worker: u32, update: u32) -> bool
         requires worker { worker < workers_of self.now }
         requires update { update < length (updates_by (terms_of K.rules self.now.limits) worker) }
-        ensures { (events : List Event) → StandsFor K.stands K.rules self.now events → let x = worker_in (state_after K.rules self.now events) worker in
+        ensures { (events : List Event) → HasRun K.stands K.rules self.now events → let x = worker_in (run_state K.rules self.now events) worker in
             result ≡ is_refused update x.refused }
     {
         self.sketches[worker as usize].refused_at(update)
@@ -99,7 +99,7 @@ impl<K: Kind> Lag<K> {
     /// How many heavy keys are shown.
     pub fn live_len(&self) -> u32
         ensures len { result ≡ self.now.live }
-        ensures stands { (events : List Event) → StandsFor K.stands K.rules self.now events → let s = state_after K.rules self.now events in
+        ensures stands { (events : List Event) → HasRun K.stands K.rules self.now events → let s = run_state K.rules self.now events in
             result ≡ length (live_keys K.rules self.now.shape self.now.heavy.limit self.now.heavy.least (shown_messages s)) }
     {
         self.live
@@ -108,7 +108,7 @@ impl<K: Kind> Lag<K> {
     /// A shown heavy key.
     pub fn live(&self, place: u32) -> FlowKey
         requires { place < self.now.live }
-        ensures { (events : List Event) → StandsFor K.stands K.rules self.now events → let s = state_after K.rules self.now events in
+        ensures { (events : List Event) → HasRun K.stands K.rules self.now events → let s = run_state K.rules self.now events in
             slice_get (live_keys K.rules self.now.shape self.now.heavy.limit self.now.heavy.least (shown_messages s)) place ≡ Some result }
     {
         self.heavy.entry(place)
@@ -116,7 +116,7 @@ impl<K: Kind> Lag<K> {
 
     /// How many shown messages had a heavy key that found no room.
     pub fn missed(&self) -> u64
-        ensures { (events : List Event) → StandsFor K.stands K.rules self.now events → let s = state_after K.rules self.now events in
+        ensures { (events : List Event) → HasRun K.stands K.rules self.now events → let s = run_state K.rules self.now events in
             result ≡ min (missed_keys K.rules self.now.shape self.now.heavy.limit self.now.heavy.least (shown_messages s)) 18446744073709551615 }
     {
         self.missed

@@ -1,6 +1,6 @@
 -- The state after some messages, one message more at a time.
 use Rattle.std.proofs.Common.{◌≡◌, ℕ, ◌+◌, ◌<◌, ◌≤◌, ◌&&◌, ◌==◌, Bool, true, false, cond, List, [], ◌∷◌, ◌++◌, length, get_or, set, fold, refl, sym, ap, ◌∙◌, arith, subst, append_assoc, length-append}
-use Rattle.std.specs.Prelude.{nat_lt}
+use Rattle.std.specs.Prelude.{nat_lt, if◌then◌else◌}
 use Rattle.std.proofs.lemmas.List.{append-nil}
 use Rattle.std.proofs.lemmas.List.Elements.{All-head, All-tail}
 use Rattle.std.proofs.lemmas.List.Sums.{fold-append}
@@ -16,11 +16,18 @@ use Rattle.push_history.specs.LiveHeavy.{notes_of}
 use Rattle.push_history.specs.Shown.{told_cells}
 use Rattle.live_state.specs.declared.layout.Layout.{Layout}
 use Rattle.live_state.specs.Fold.{StateView, most, fits, added, absorbed, fresh_state, Fit, layout_of, key_noted, front_raised}
-use Rattle.live_state.specs.Shows.{heavy_after, all_noted}
 use Rattle.live_state.proofs.Layouts.{added_layout, fresh_layout}
 use Rattle.live_state.proofs.Lists.{filter_length}
 use Rattle.push_history.proofs.MoreMessages.{cells_none, cells_more, front_at, front_none, front_more, upto_none, upto_more}
 use Rattle.push_history.proofs.Notes.{notes_push}
+
+-- the heavy keys after some keys were noted with their estimates
+abbrev pub all_noted : HeavyTable → List Flow → HeavyTable
+all_noted heavy notes = fold (λ h note. noted h note.key note.estimate) heavy notes
+
+-- those after the keys of the messages, where estimates depend on the key
+abbrev pub heavy_after : Rules → Layout → List Push → HeavyTable
+heavy_after r l messages = all_noted (fresh_table l.heavy l.least) (if r.keyed then notes_of r l.shape messages else [])
 
 -- what is kept of some messages
 pub record Kept (r : Rules) (l : Layout) (messages : List Push) (s : StateView) : Type 0 where

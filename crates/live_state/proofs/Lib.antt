@@ -1,4 +1,4 @@
-mod Lists
+pub mod Lists
 pub mod Layouts
 mod Kept
 pub mod Live

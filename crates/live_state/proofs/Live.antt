@@ -13,9 +13,9 @@ use Rattle.heavy_keys.proofs.LiveLemmas.{holds_none, holds_noted}
 use Rattle.push_history.specs.LiveHeavy.{notes_of, note_at, live_of, missed_of, live_keys, missed_keys, qualifying, is_among}
 use Rattle.live_state.specs.declared.layout.Layout.{Layout}
 use Rattle.live_state.specs.Fold.{StateView, most, state_after, Fit}
-use Rattle.live_state.specs.Shows.{Shows, all_noted}
+use Rattle.live_state.specs.Shows.{Shows}
 use Rattle.live_state.proofs.Lists.{filter_length}
-use Rattle.live_state.proofs.Kept.{Kept, kept_none, kept_all}
+use Rattle.live_state.proofs.Kept.{Kept, all_noted, kept_none, kept_all}
 
 live_all : (t : HeavyTable) (before rest : List Flow) → HoldsLive t before → HoldsLive (all_noted t rest) (before ++ rest)
 live_all t before [] h = subst (HoldsLive t) (sym (append-nil before)) h

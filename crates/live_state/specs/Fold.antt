@@ -1,5 +1,6 @@
 -- What a state is, and what a message makes of it.
-use Rattle.std.specs.Prelude.{◌≡◌, ℕ, ℤ, pos, ◌+◌, ◌&&◌, Bool, true, min, List, length, replicate, nat_lt, fold, All, slice_set, slice_index_or, if◌then◌else◌}
+use Rattle.std.specs.Prelude.{◌≡◌, ℕ, ℤ, pos, ◌+◌, ◌&&◌, Bool, true, List, length, replicate, nat_lt, fold, All, slice_set, slice_index_or, if◌then◌else◌}
+use Rattle.flow_base.specs.Calls.{one_more}
 use Rattle.packet_key.specs.declared.key.FlowKey.{FlowKey}
 use Rattle.hash_rows.specs.declared.shape.Push.{Push}
 use Rattle.hash_rows.specs.declared.shape.Shape.{Shape}
@@ -21,10 +22,6 @@ pub record StateView : Type 0 where
 -- the last number of a count of 64 bits
 abbrev pub most : ℕ
 most = 18446744073709551615
-
--- one more, where a count of 64 bits has it
-abbrev pub one_more : ℕ → ℕ
-one_more n = min (n + 1) most
 
 -- what the state is made for
 abbrev pub layout_of : StateView → Layout

@@ -1,22 +1,12 @@
 -- What the state after some messages says of them.
-use Rattle.std.specs.Prelude.{◌≡◌, [], List, length, fold, if◌then◌else◌}
-use Rattle.hash_rows.specs.declared.shape.Flow.{Flow}
+use Rattle.std.specs.Prelude.{◌≡◌, List, length}
 use Rattle.hash_rows.specs.declared.shape.Push.{Push}
 use Rattle.hash_rows.specs.Rules.{Rules}
-use Rattle.heavy_keys.specs.Noted.{HeavyTable, noted, fresh_table}
 use Rattle.push_history.specs.Front.{front_of, uptos_of}
-use Rattle.push_history.specs.LiveHeavy.{notes_of, live_keys, missed_keys}
+use Rattle.push_history.specs.LiveHeavy.{live_keys, missed_keys}
 use Rattle.push_history.specs.Shown.{told_cells}
 use Rattle.live_state.specs.declared.layout.Layout.{Layout}
 use Rattle.live_state.specs.Fold.{StateView}
-
--- the heavy keys after some keys were noted with their estimates
-abbrev pub all_noted : HeavyTable → List Flow → HeavyTable
-all_noted heavy notes = fold (λ h note. noted h note.key note.estimate) heavy notes
-
--- those after the keys of the messages, where estimates depend on the key
-abbrev pub heavy_after : Rules → Layout → List Push → HeavyTable
-heavy_after r l messages = all_noted (fresh_table l.heavy l.least) (if r.keyed then notes_of r l.shape messages else [])
 
 -- each cell is the join of the amounts for it; of each worker it is known how many messages there are, and one more
 -- than the last one's update; and the heavy keys are the live ones

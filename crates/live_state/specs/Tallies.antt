@@ -4,14 +4,18 @@ use Rattle.packet_key.specs.declared.key.FlowKey.{FlowKey}
 use Rattle.hash_rows.specs.Rules.{Rules}
 use Rattle.hash_rows.specs.Tables.{TableView}
 use Rattle.heavy_keys.specs.Noted.{HeavyTable, noted, fresh_table}
-use Rattle.live_state.specs.Fold.{front_raised, key_noted, one_more}
+use Rattle.flow_base.specs.Calls.{one_more}
+use Rattle.live_state.specs.Fold.{front_raised, key_noted}
 
+-- of each worker how many messages were folded, and one more than the last folded update; how many messages were
+-- folded; the heavy keys
 pub record Tallied : Type 0 where
   pub front : List ℕ
   pub upto : List ℕ
   pub folded : ℕ
   pub heavy : HeavyTable
 
+-- that of no message
 abbrev pub fresh_tally : ℕ → ℕ → ℤ → Tallied
 fresh_tally workers heavy least = record { front = replicate workers 0; upto = replicate workers 0; folded = 0; heavy = fresh_table heavy least }
 

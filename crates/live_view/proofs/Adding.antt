@@ -7,7 +7,7 @@ use prog.Atomic.{either}
 use Rattle.logbook.specs.Pages.{Cell, cell, keeps, no_nib, step, Moves, Goes}
 use Rattle.hash_rows.specs.declared.shape.Push.{Push}
 use Rattle.live_view.specs.HistoryRule.{IsKept, Adds}
-use Rattle.live_view.proofs.Prefixes.{prefix_whole}
+use Rattle.push_history.proofs.Prefixes.{prefix_whole}
 
 abbrev pub shown : List Push → List Push
 shown log = []

@@ -8,7 +8,7 @@ use Rattle.live_state.specs.Fold.{StateView, fits, added, absorbed, layout_of, f
 use Rattle.hash_rows.specs.declared.shape.Push.{Push}
 use Rattle.live_state.specs.declared.layout.Layout.{Layout}
 use Rattle.live_state.proofs.Layouts.{fresh_layout, absorbed_layout, layout_all}
-use Rattle.live_view.proofs.Prefixes.{prefix_whole}
+use Rattle.push_history.proofs.Prefixes.{prefix_whole}
 
 module _ (r : Rules) where
   counts_chosen : (b : Bool) (s t : StateView) → b ≡ true → t.folded ≡ min (s.folded + 1) most → (cond b t s).folded ≡ min (s.folded + 1) most

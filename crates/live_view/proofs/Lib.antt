@@ -1,5 +1,3 @@
-mod Lists
-mod Prefixes
 mod Folds
 mod Adding
 mod Turns

@@ -9,7 +9,7 @@ use Rattle.live_state.specs.declared.layout.Layout.{Layout}
 use Rattle.live_state.specs.Copies.{HasRoomFor, IsCopyOf, KeepsRest}
 use Rattle.live_state.specs.Fold.{Fit, state_after, most}
 use Rattle.live_view.specs.Views.{ReaderView}
-use Rattle.live_view.proofs.Prefixes.{prefix_trans}
+use Rattle.push_history.proofs.Prefixes.{prefix_trans}
 use Rattle.live_view.proofs.Folds.{known_whole}
 
 -- what holds after each ask, of the view before, what was published and the answer before

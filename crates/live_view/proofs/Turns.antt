@@ -17,7 +17,7 @@ use Rattle.live_state.specs.declared.layout.Layout.{Layout}
 use Rattle.live_view.specs.declared.history.Entry.{Entry}
 use Rattle.live_view.specs.declared.rule.Notes.{Notes}
 use Rattle.live_view.specs.declared.rule.Pair.{Pair}
-use Rattle.live_view.proofs.Prefixes.{prefix_self, prefix_trans}
+use Rattle.push_history.proofs.Prefixes.{prefix_self, prefix_trans}
 use Rattle.live_state.proofs.Layouts.{layout_all, fresh_layout}
 use Rattle.live_view.proofs.Folds.{goes_on}
 

@@ -12,7 +12,7 @@ use Rattle.live_view.specs.declared.history.Entry.{Entry}
 use Rattle.live_view.specs.declared.history.HistoryWriter.{HistoryWriter}
 use Rattle.live_view.specs.declared.rule.Notes.{Notes}
 use mathlib.Core.List.{IsPrefix}
-use Rattle.live_view.proofs.Prefixes.{prefix_whole}
+use Rattle.push_history.proofs.Prefixes.{prefix_whole}
 use Rattle.live_view.proofs.Folds.{count_is}
 use Rattle.live_view.proofs.Turns.{turned_all, sums_go_on}
 

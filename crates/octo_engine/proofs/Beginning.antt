@@ -29,7 +29,8 @@ use Rattle.push_history.specs.Updates.{updates_of}
 use Rattle.live_state.specs.Fold.{Fit, StateView, fresh_state, state_after}
 use Rattle.round_law.specs.OwnRounds.{folded_after}
 use Rattle.round_law.proofs.Fitting.{folded_few, folded_fits}
-use Rattle.round_law.proofs.OwnRounds.{folded_none, terms_len, updates_there}
+use Rattle.round_law.proofs.OwnRounds.{folded_none}
+use Rattle.push_history.proofs.Fitting.{terms_len, updates_there}
 use Rattle.octo_engine.specs.Counts.{HasShare}
 use Rattle.octo_engine.specs.Looks.{AreLooks, layout_in, looks_wanted}
 use Rattle.octo_engine.specs.Rounds.{AreTerms, Suit}

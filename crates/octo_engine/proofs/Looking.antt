@@ -14,7 +14,7 @@ use Rattle.live_state.specs.Copies.{IsCopyOf}
 use Rattle.live_state.specs.Fold.{StateView, state_after}
 use Rattle.live_state.proofs.Live.{shows_all}
 use Rattle.round_law.specs.OwnRounds.{folded_after}
-use Rattle.round_law.specs.Outcome.{IsLook}
+use Rattle.push_history.specs.Looks.{IsLook}
 use Rattle.octo_engine.specs.Looks.{AreAllLooks, AreLooks, AreMoreLooks, Runs, layout_in}
 
 -- a list with one item more, place by place

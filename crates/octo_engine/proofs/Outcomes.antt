@@ -20,7 +20,7 @@ use Rattle.push_history.specs.Journal.{rules_in, terms_of}
 use Rattle.push_history.specs.LagRun.{Terms, Worker, fresh_worker, updates_by, worker_in}
 use Rattle.push_history.specs.LiveHeavy.{live_keys, missed_keys}
 use Rattle.push_history.specs.Residue.{residue}
-use Rattle.push_history.specs.RoundStates.{round_state}
+use Rattle.round_law.specs.RoundStates.{round_state}
 use Rattle.push_history.specs.Rounds.{events_of_rounds, is_busy}
 use Rattle.push_history.specs.Share.{share_of_worker}
 use Rattle.push_history.specs.Shown.{told_cells}
@@ -31,9 +31,11 @@ use Rattle.live_state.specs.Fold.{StateView}
 use Rattle.live_state.specs.Shows.{Shows}
 use Rattle.live_state.proofs.Live.{shows_all}
 use Rattle.round_law.specs.OwnRounds.{folded_after, own_rounds}
-use Rattle.round_law.specs.Outcome.{AreMarks, IsAnswerAt, IsLook, IsOutcome, settled_cell}
-use Rattle.round_law.proofs.Fitting.{folded_fits, terms_laws}
-use Rattle.round_law.proofs.OwnRounds.{idle_by_workers, terms_len, worker_after}
+use Rattle.round_law.specs.Outcome.{AreMarks, IsAnswerAt, IsOutcome, settled_cell}
+use Rattle.push_history.specs.Looks.{IsLook}
+use Rattle.round_law.proofs.Fitting.{folded_fits}
+use Rattle.push_history.proofs.Fitting.{terms_laws, terms_len}
+use Rattle.round_law.proofs.OwnRounds.{idle_by_workers, worker_after}
 use Rattle.round_law.proofs.Settled.{settled_sequential}
 use Rattle.octo_engine.specs.declared.worker.Part.{Part}
 use Rattle.octo_engine.specs.Answers.{AreAnswers, IsAnswerOf}

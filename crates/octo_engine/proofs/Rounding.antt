@@ -10,11 +10,12 @@ use Rattle.hash_rows.specs.Lawful.{IsLawful}
 use Rattle.hash_rows.specs.Rules.{Rules}
 use Rattle.std.proofs.Math.Nat.{one-le-mul}
 use Rattle.push_history.specs.LagRun.{Terms, Worker, updates_by, fresh_worker}
-use Rattle.push_history.specs.OwnSteps.{folded_in_round, is_own_busy, own_round}
+use Rattle.push_history.specs.OwnSteps.{folded_in_round, own_round}
+use Rattle.round_law.proofs.WorkLeft.{is_own_busy, work_left}
 use Rattle.push_history.specs.Share.{share_of_worker}
 use Rattle.push_rule.specs.Keeps.{Keeps}
 use Rattle.live_state.specs.Fold.{StateView, absorbed, fresh_state, state_after}
-use Rattle.round_law.specs.OwnRounds.{folded_after, own_rounds, work_left}
+use Rattle.round_law.specs.OwnRounds.{folded_after, own_rounds}
 use Rattle.round_law.proofs.OwnRounds.{folded_more, rounds_more}
 use Rattle.round_law.proofs.Measure.{IsWithin, less_left, no_more_left, round_within}
 use Rattle.octo_engine.specs.declared.worker.Part.{Part}

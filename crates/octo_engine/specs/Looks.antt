@@ -8,7 +8,7 @@ use Rattle.push_history.specs.LagRun.{Terms}
 use Rattle.live_state.specs.Fold.{Fit}
 use Rattle.live_state.specs.declared.layout.Layout.{Layout}
 use Rattle.round_law.specs.OwnRounds.{folded_after}
-use Rattle.round_law.specs.Outcome.{IsLook}
+use Rattle.push_history.specs.Looks.{IsLook}
 
 -- what the live state is made for
 abbrev pub layout_in : Options → Layout

@@ -1,4 +1,5 @@
 pub mod Bytes
+pub mod EqualKeys
 mod Lengths
 pub mod OneText
 pub mod Ordered

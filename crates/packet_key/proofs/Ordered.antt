@@ -9,7 +9,7 @@ use Rattle.packet_key.specs.declared.key.FlowKey.TheVariants.{V4, V6}
 use Rattle.packet_key.specs.contracts.key.FlowKeyOrd.TheImpl.{ghosts}
 use Rattle.packet_key.specs.KeyBytes.{tail_of}
 use Rattle.packet_key.specs.KeyText.{IsKey}
-use Rattle.packet_key.specs.KeyOrder.{order_of}
+use Rattle.packet_key.specs.KeyOrder.{key_order}
 
 then_assoc : (o p q : Ordering) → ordering_then (ordering_then o p) q ≡ ordering_then o (ordering_then p q)
 then_assoc Less p q = refl
@@ -83,7 +83,7 @@ slice_cmp-tail c c₂ d d₂ e e₂ fits fits₂ small small₂ =
     ∙ ap₂ ordering_then (slice_cmp-two c c₂ fits fits₂) (ap₂ ordering_then (slice_cmp-two d d₂ small small₂) (then_equal (nat_cmp e e₂)))
 
 -- `cmp` of the derived `Ord`
-pub cmp_is_order : (k l : FlowKey) → IsKey k → IsKey l → ghosts.cmp k l ≡ order_of k l
+pub cmp_is_order : (k l : FlowKey) → IsKey k → IsKey l → ghosts.cmp k l ≡ key_order k l
 cmp_is_order (V4 a b c d e) (V4 a₂ b₂ c₂ d₂ e₂) is too = sym
     (slice_cmp-parts (to_be_bytes w32 a) (to_be_bytes w32 a₂) (to_be_bytes w32 b) (to_be_bytes w32 b₂) (tail_of c d e) (tail_of c₂ d₂ e₂) refl refl
     ∙ ap₂ ordering_then (slice_cmp-four a a₂ is.0 too.0) (ap₂ ordering_then (slice_cmp-four b b₂ is.1 too.1)

@@ -36,7 +36,8 @@ pub fn put_port(into: &mut [u8], at: usize, port: u16) -> usize
     put(into, at, digits.format(port).as_bytes())
 }
 
-fn hex_digit(digit: u16) -> u8
+/// The lower-case hexadecimal digit, in ASCII.
+pub fn hex_digit(digit: u32) -> u8
     requires { digit < 16 }
     ensures { result ≡ digit_char digit }
 {
@@ -55,6 +56,7 @@ pub fn put_group(into: &mut [u8], at: usize, group: u16) -> usize
     ensures most { result ≤ at + 4 }
     ensures front { take result into.new ≡ take at into.old ++ hex group }
 {
+    let group = u32::from(group);
     let digits = [
         hex_digit(group / 0x1000),
         hex_digit(group / 0x100 % 16),

@@ -21,7 +21,7 @@ use Rattle.push_history.proofs.Telling.{amounts_are_values}
 use Rattle.push_history.proofs.Telling.{whole_is as whole_is_told}
 
 -- what two lists of messages tell
-told_append : (r : Rules) → AreLaws r → (cell : ℕ) (S T : List Push) → All (λ m. r.is_value m.amount ≡ true) S → All (λ m. r.is_value m.amount ≡ true) T
+pub told_append : (r : Rules) → AreLaws r → (cell : ℕ) (S T : List Push) → All (λ m. r.is_value m.amount ≡ true) S → All (λ m. r.is_value m.amount ≡ true) T
     → told_of r cell (S ++ T) ≡ r.join (told_of r cell S) (told_of r cell T)
 unfolding told_of
 told_append r laws cell S T first second =

@@ -10,9 +10,11 @@ pub mod Lawfuls
 pub mod RunLaws
 pub mod Conserved
 pub mod Notes
+pub mod LiveLists
 pub mod Runs
-pub mod RoundRuns
-pub mod RoundSteps
-pub mod AskLists
-pub mod AskParts
-pub mod RoundAnswers
+pub mod PlaceLists
+pub mod Marked
+pub mod Prefixes
+pub mod Fitting
+pub mod WorkerJoins
+pub mod Flight

@@ -1,15 +1,16 @@
 -- One message more, in what folded messages tell: their cells, their front and their last updates.
-use Rattle.std.proofs.Common.{◌≡◌, ℕ, ℤ, pos, suc, ◌+◌, ◌-◌, ◌<◌, ◌==◌, Bool, true, false, cond, List, [], ◌∷◌, ◌++◌, length, get_or, set, replicate, refl, sym, ap, ◌∙◌, arith, length-append}
+use Rattle.std.proofs.Common.{◌≡◌, ℕ, ℤ, pos, zero, suc, ◌+◌, ◌-◌, ◌<◌, ◌≤◌, ◌==◌, Bool, true, false, cond, if◌then◌else◌, List, [], ◌∷◌, ◌++◌, length, get_or, set, take, replicate, refl, sym, ap, ◌∙◌, arith, length-append}
 use Rattle.hash_rows.specs.declared.shape.Push.{Push}
 use Rattle.hash_rows.specs.declared.shape.Shape.{Shape}
 use Rattle.hash_rows.specs.Rules.{Rules}
 use Rattle.hash_rows.specs.Shapes.{size_of}
+use Rattle.push_history.specs.Share.{zero_key}
 use Rattle.push_history.specs.Told.{told_of}
 use Rattle.push_history.specs.Shown.{told_cells}
 use Rattle.push_history.specs.Front.{message_at, messages_of, front_of, upto_of, uptos_of}
 use Rattle.std.proofs.lemmas.Bool.{eq-eqb}
-use Rattle.std.proofs.lemmas.List.{get_or_push, length-replicate, get_or-replicate}
-use Rattle.std.proofs.lemmas.List.FromFn.{fill_by_all, get_or-map-range_with_len}
+use Rattle.std.proofs.lemmas.List.{get_or_push, get_or-take, length-replicate, get_or-replicate}
+use Rattle.std.proofs.lemmas.List.FromFn.{fill_by_all, get_or-map-range_with_len, length-map-range_with_len}
 use Rattle.std.proofs.lemmas.Bool.Decides.{nat_tests}
 use Rattle.push_history.proofs.Joins.{told_push}
 use Rattle.push_history.proofs.Lists.{filter_push_no, filter_push_yes, set_made}
@@ -92,3 +93,19 @@ upto_more workers messages m upto is inside =
     set_made (last_of messages) (last_of (messages ++ m ∷ [])) upto workers m.worker _ 0 is inside
     (ap (λ (l : List Push). upto_of l (length l)) (filter_push_yes (λ (x : Push). x.worker == m.worker) messages m (eq-eqb m.worker m.worker refl)) ∙ last_update (messages_of m.worker messages) m)
     (λ k apart. ap (λ (l : List Push). upto_of l (length l)) (filter_push_no (λ (x : Push). x.worker == k) messages m apart))
+
+-- a front has a number for each worker
+pub front_len : (workers : ℕ) (messages : List Push) → length (front_of workers messages) ≡ workers
+unfolding front_of
+front_len workers messages = length-map-range_with_len (λ w. length (messages_of w messages)) 0 workers
+
+-- the number after the first messages is that of the messages themselves
+upto_take : (messages : List Push) (j n : ℕ) → j ≤ n → upto_of (take n messages) j ≡ upto_of messages j
+unfolding upto_of
+upto_take messages zero n le = refl
+upto_take messages (suc i) n le =
+    ap (λ (m : Push). if suc i == 0 then 0 else m.update + 1)
+    (get_or-take n messages (suc i - 1) (record { worker = 0; packet = 0; update = 0; key = zero_key; cell = 0; amount = pos 0 }) (omega (arith, le)))
+
+pub upto_firsts : (xs all : List Push) → xs ≡ take (length xs) all → upto_of all (length xs) ≡ upto_of xs (length xs)
+upto_firsts xs all first = sym (upto_take all (length xs) (length xs) (omega arith)) ∙ ap (λ (l : List Push). upto_of l (length xs)) (sym first)

@@ -12,11 +12,7 @@ message_at messages k = slice_index_or messages k (record { worker = 0; packet =
 abbrev pub messages_of : ℕ → List Push → List Push
 messages_of w messages = filter (λ m. m.worker == w) messages
 
--- those of each worker
-unfoldable pub by_worker : ℕ → List Push → List (List Push)
-by_worker workers messages = map (λ w. messages_of w messages) (range_with_len 0 workers)
-
--- how many each worker has
+-- how many messages each worker has
 unfoldable pub front_of : ℕ → List Push → List ℕ
 front_of workers messages = map (λ w. length (messages_of w messages)) (range_with_len 0 workers)
 

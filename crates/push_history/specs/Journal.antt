@@ -47,6 +47,7 @@ abbrev pub asked_keys : Sketch → List FlowKey → List FlowKey
 asked_keys LogLog watched = zero_key ∷ []
 asked_keys _ watched = watched
 
+-- those of a run
 abbrev pub keys_of : Options → List FlowKey
 keys_of o = asked_keys o.sketch o.watch.items
 

@@ -42,9 +42,11 @@ pub record State : Type 0 where
 abbrev pub updates_by : Terms → ℕ → List Entry
 updates_by t w = slice_index_or t.updates w []
 
+-- a worker that did nothing yet
 abbrev pub fresh_worker : Worker
 fresh_worker = record { counted = 0; sent = []; refused = []; taken = 0 }
 
+-- worker w of a state
 abbrev pub worker_in : State → ℕ → Worker
 worker_in s w = slice_index_or s.workers w fresh_worker
 

@@ -9,7 +9,7 @@ use Rattle.hash_rows.specs.declared.options.Sketch.TheVariants.{CountMin, LogLog
 use Rattle.hash_rows.specs.declared.shape.Packet.{Packet}
 use Rattle.hash_rows.specs.declared.shape.Flow.{Flow}
 use Rattle.hash_rows.specs.declared.shape.Push.{Push}
-use Rattle.hash_rows.specs.Keys.{same_key}
+use Rattle.packet_key.specs.Keys.{same_key}
 use Rattle.push_history.specs.Pushes.{LawfulPushes}
 use Rattle.push_history.specs.Front.{IsFront}
 use Rattle.push_history.specs.Shown.{shown_cells, told_cells}
@@ -31,6 +31,7 @@ pub record LawfulWorker (packets : List Packet) (o : Options) (j : Journal) (mes
   pub lawful : LawfulPushes (rules_in o) w o.threshold o.lane o.full (updates_by_options packets o w) (sent_by messages w) (slice_index_or j.refused w [])
   pub pushes : slice_index_or j.pushes w 0 ≡ length (sent_by messages w)
 
+-- so is it with each worker
 pub record LawfulWorkers (packets : List Packet) (o : Options) (j : Journal) (messages : List (List Push)) : Type 0 where
   pub refused : length j.refused ≡ o.workers
   pub pushes : length j.pushes ≡ o.workers
@@ -97,6 +98,14 @@ pub record IsGrowingTable (o : Options) (messages : List (List Push)) (live : Li
 abbrev pub OnlyOf : List (List Push) → ℕ → Type 0
 OnlyOf messages w = all_of messages ≡ sent_by messages w
 
+-- the live keys and how many were missed are lawful; where one worker alone has messages, they are those of its list
+pub record IsLawfulHeavy (o : Options) (messages : List (List Push)) (live : List FlowKey) (missed : ℕ) : Type 0 where
+  pub live_table : IsLiveTable o messages live missed
+  pub growing : o.sketch ≡ CountMin → IsGrowingTable o messages live missed
+  pub alone : (w : ℕ) → OnlyOf messages w
+      → (live ≡ live_keys (rules_in o) o.shape o.heavy o.least (sent_by messages w))
+      × (missed ≡ missed_keys (rules_in o) o.shape o.heavy o.least (sent_by messages w))
+
 -- the messages that the workers sent, and what the journal says of them
 pub record IsThreadsJournal (packets : List Packet) (o : Options) (j : Journal) : Type 0 where
   pub messages : List (List Push)
@@ -104,11 +113,7 @@ pub record IsThreadsJournal (packets : List Packet) (o : Options) (j : Journal) 
   pub places : places_of j.answers ≡ places_by o.readers o.asks
   pub answers : All (IsLawfulAnswer o messages) j.answers
   pub ordered : AreOrdered j.answers
-  pub live_table : IsLiveTable o messages j.live j.missed
-  pub growing : o.sketch ≡ CountMin → IsGrowingTable o messages j.live j.missed
-  pub alone : (w : ℕ) → OnlyOf messages w
-      → (j.live ≡ live_keys (rules_in o) o.shape o.heavy o.least (sent_by messages w))
-      × (j.missed ≡ missed_keys (rules_in o) o.shape o.heavy o.least (sent_by messages w))
+  pub heavy : IsLawfulHeavy o messages j.live j.missed
 
 -- by the mode of the run
 abbrev pub IsJournalIn : Mode → List Packet → Options → Journal → Type 0

@@ -14,4 +14,4 @@ pub mod Rounds
 pub mod LawfulJournal
 pub mod LawfulRun
 pub mod OwnSteps
-pub mod RoundStates
+pub mod Looks

@@ -5,7 +5,7 @@ use Rattle.packet_key.specs.declared.key.FlowKey.{FlowKey}
 use Rattle.hash_rows.specs.declared.shape.Shape.{Shape}
 use Rattle.hash_rows.specs.declared.shape.Flow.{Flow}
 use Rattle.hash_rows.specs.declared.shape.Push.{Push}
-pub use Rattle.hash_rows.specs.Keys.{same_key}
+pub use Rattle.packet_key.specs.Keys.{same_key}
 use Rattle.hash_rows.specs.Rules.{Rules}
 use Rattle.push_history.specs.Front.{message_at}
 use Rattle.push_history.specs.Shown.{told_cells}
@@ -48,5 +48,6 @@ notes_of r shape messages = map (note_at r shape messages) (range_with_len 0 (le
 unfoldable pub live_keys : Rules → Shape → ℕ → ℤ → List Push → List FlowKey
 live_keys r shape limit least messages = if r.keyed then live_of limit least (notes_of r shape messages) else []
 
+-- how many of their notes were missed
 unfoldable pub missed_keys : Rules → Shape → ℕ → ℤ → List Push → ℕ
 missed_keys r shape limit least messages = if r.keyed then missed_of limit least (notes_of r shape messages) else 0

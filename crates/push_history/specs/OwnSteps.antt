@@ -1,5 +1,5 @@
 -- What one worker does of a run by itself: the other workers have no part in it.
-use Rattle.std.specs.Prelude.{ℕ, zero, suc, ◌+◌, ◌-◌, ◌*◌, ◌||◌, List, Bool, if◌then◌else◌, length, take, drop, min, nat_lt}
+use Rattle.std.specs.Prelude.{ℕ, zero, suc, ◌+◌, ◌-◌, ◌*◌, List, if◌then◌else◌, length, take, drop, min}
 use Rattle.hash_rows.specs.declared.options.Options.{Options}
 use Rattle.hash_rows.specs.declared.shape.Push.{Push}
 use Rattle.push_history.specs.LagRun.{Terms, Worker, updates_by, count_step}
@@ -37,7 +37,3 @@ folded_in_round t o w x = let c = counted_in_round t o w x in next_taken c (min 
 -- the worker after the round
 unfoldable pub own_round : Terms → Options → ℕ → Worker → Worker
 own_round t o w x = let c = counted_in_round t o w x in with_taken c (min o.batch (held_of c))
-
--- whether the worker has updates left, or its lane a message
-abbrev pub is_own_busy : Terms → ℕ → Worker → Bool
-is_own_busy t w x = nat_lt 0 (left_of t w x) || nat_lt 0 (held_of x)

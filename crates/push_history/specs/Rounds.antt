@@ -20,6 +20,7 @@ updates_left t s w = length (updates_by t w) - (worker_in s w).counted
 abbrev pub held_by : State → ℕ → ℕ
 held_by s w = length (worker_in s w).sent - (worker_in s w).taken
 
+-- whether an update has to wait for room in its lane
 abbrev pub is_waits : Reply → Bool
 is_waits Waits = true
 is_waits _ = false

@@ -15,7 +15,7 @@ ghost use Rattle.push_history.specs.Pushes.{ArePushes, is_refused};
 ghost use Rattle.push_history.specs.Residue.{residue, residue_size};
 ghost use Rattle.push_history.specs.Share.{share_of_worker};
 ghost use Rattle.push_history.specs.Shown.{shown_of};
-ghost use Rattle.push_history.specs.Told.{told, told_of};
+ghost use Rattle.push_history.specs.Told.{messages_before, told, told_of};
 ghost use Rattle.push_history.specs.Updates.{HoldValues, IsLastOf, updates_of};
 ghost use Rattle.push_history.specs.Whole.{whole};
 
@@ -33,6 +33,18 @@ pub fn whole_is_told_and_residue()
         HoldValues r updates → ArePushes r threshold updates messages refused →
         (n cell : ℕ) → n ≤ length updates →
         whole r updates n cell ≡ r.join (told r messages n cell) (residue r updates messages n cell) }
+{}
+
+/// At every number of updates from a front's own on, what was counted of a cell is what the messages
+/// up to the front tell, joined with those in flight behind it and with the residue.
+pub fn whole_is_front_flight_and_residue()
+    ensures { (r : Rules) → AreLaws r →
+        (threshold : ℕ) (updates : List Update) (messages : List Push) (refused : List ℕ) →
+        HoldValues r updates → ArePushes r threshold updates messages refused →
+        (j n cell : ℕ) → j ≤ length messages → upto_of messages j ≤ n → n ≤ length updates →
+        let shown = told_of r cell (take j messages) in
+        let flight = told_of r cell (messages_before n (drop j messages)) in
+        whole r updates n cell ≡ r.join (r.join shown flight) (residue r updates messages n cell) }
 {}
 
 /// Where a residue is as large as the threshold, the last update of its cell was refused.

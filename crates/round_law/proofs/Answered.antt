@@ -10,16 +10,16 @@ use Rattle.push_history.specs.declared.event.Event.{Event}
 use Rattle.push_history.specs.Answers.{AnswerParts, answer_in, answers_of, answers_to, parts_of}
 use Rattle.push_history.specs.Journal.{keys_of}
 use Rattle.push_history.specs.LagRun.{Terms}
-use Rattle.push_history.specs.RoundStates.{round_state}
+use Rattle.round_law.specs.RoundStates.{round_state}
 use Rattle.push_history.specs.Rounds.{AreRounds, ask_at_end, events_of_rounds, is_busy}
-use Rattle.push_history.proofs.AskParts.{same_answer}
+use Rattle.round_law.proofs.AskParts.{same_answer}
 use Rattle.push_history.proofs.Notes.{map_range_same}
-use Rattle.push_history.proofs.RoundAnswers.{all_answers}
-use Rattle.push_history.proofs.RoundRuns.{flat_map_same}
+use Rattle.round_law.proofs.RoundAnswers.{all_answers}
+use Rattle.round_law.proofs.RoundRuns.{flat_map_same}
 use Rattle.round_law.specs.Outcome.{IsAnswerAt}
 use Rattle.round_law.specs.OwnRounds.{folded_after}
 use Rattle.round_law.proofs.Idle.{same_later, shown_after, end_rounds}
-use Rattle.round_law.proofs.Lists.{map_grid, range_split}
+use Rattle.push_history.proofs.PlaceLists.{map_grid, range_split}
 use Rattle.round_law.proofs.Looks.{look_parts}
 use Rattle.round_law.proofs.OwnRounds.{round_len, rounds_lawful}
 

@@ -7,15 +7,16 @@ use Rattle.hash_rows.specs.declared.options.Options.{Options}
 use Rattle.hash_rows.specs.declared.shape.Update.{Update}
 use Rattle.push_history.specs.Front.{front_of, messages_of}
 use Rattle.push_history.specs.LagRun.{Terms, Worker, fresh_worker, updates_by, worker_in}
-use Rattle.push_history.specs.OwnSteps.{held_of, is_own_busy, left_of}
+use Rattle.push_history.specs.OwnSteps.{held_of, left_of}
+use Rattle.round_law.proofs.WorkLeft.{is_own_busy}
 use Rattle.push_history.specs.Pushes.{ArePushes}
-use Rattle.push_history.specs.RoundStates.{round_state}
+use Rattle.round_law.specs.RoundStates.{round_state}
 use Rattle.push_history.specs.Rounds.{events_of_rounds, is_busy}
 use Rattle.round_law.specs.Outcome.{AreMarks}
 use Rattle.round_law.specs.OwnRounds.{folded_after}
 use Rattle.round_law.proofs.Idle.{nothing_left}
-use Rattle.round_law.proofs.Lists.{map_at}
-use Rattle.round_law.proofs.Marked.{marked_is}
+use Rattle.push_history.proofs.PlaceLists.{map_at}
+use Rattle.push_history.proofs.Marked.{marked_is}
 use Rattle.round_law.proofs.OwnRounds.{round_len, rounds_lawful, worker_after, worker_idle}
 
 module _ (t : Terms) (o : Options) (same : length t.updates ≡ o.workers) (n : ℕ) (idle : is_busy t o (events_of_rounds t o n) ≡ false) where

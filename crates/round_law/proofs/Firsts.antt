@@ -15,12 +15,12 @@ use Rattle.push_history.specs.Front.{front_of, messages_of}
 use Rattle.push_history.specs.LagRun.{Terms, Worker, State, worker_in, fresh_worker}
 use Rattle.push_history.specs.LawfulRun.{IsLawfulState}
 use Rattle.push_history.specs.OwnSteps.{folded_in_round}
-use Rattle.push_history.specs.RoundStates.{round_state}
+use Rattle.round_law.specs.RoundStates.{round_state}
 use Rattle.push_history.specs.Shown.{shown_cells, shown_of, told_cells}
 use Rattle.push_history.specs.Told.{told_of}
 use Rattle.push_history.proofs.Folded.{fold_shown}
 use Rattle.push_history.proofs.Notes.{map_range_same}
-use Rattle.fold_law.proofs.Counted.{messages_in}
+use Rattle.bracket.proofs.Counted.{messages_in}
 use Rattle.round_law.specs.OwnRounds.{folded_after, own_rounds}
 use Rattle.round_law.proofs.OwnRounds.{folded_more, rounds_lawful}
 

@@ -9,12 +9,13 @@ use Rattle.hash_rows.specs.declared.options.Options.{Options}
 use Rattle.hash_rows.specs.declared.shape.Push.{Push}
 use Rattle.push_history.specs.declared.event.Event.{Event}
 use Rattle.push_history.specs.LagRun.{Terms, Worker, fresh_worker, lag_run, start}
-use Rattle.push_history.specs.OwnSteps.{counts, left_of, held_of, with_taken, next_taken, own_round, folded_in_round, counted_in_round, is_own_busy}
-use Rattle.push_history.specs.RoundStates.{round_state}
+use Rattle.push_history.specs.OwnSteps.{counts, left_of, held_of, with_taken, next_taken, own_round, folded_in_round, counted_in_round}
+use Rattle.round_law.proofs.WorkLeft.{is_own_busy}
+use Rattle.round_law.specs.RoundStates.{round_state}
 use Rattle.push_history.specs.Rounds.{AreRounds, ask_at_end, is_busy, events_of_rounds}
-use Rattle.push_history.proofs.RoundAnswers.{finish_run}
-use Rattle.push_history.proofs.RoundRuns.{flat_map_same}
-use Rattle.push_history.proofs.RoundSteps.{SameRun}
+use Rattle.round_law.proofs.RoundAnswers.{finish_run}
+use Rattle.round_law.proofs.RoundRuns.{flat_map_same}
+use Rattle.round_law.proofs.RoundSteps.{SameRun}
 use Rattle.round_law.specs.OwnRounds.{own_rounds, folded_after}
 use Rattle.round_law.proofs.OwnRounds.{round_len, round_next, worker_after, folded_more, rounds_more, idle_by_workers, worker_idle}
 

@@ -12,14 +12,14 @@ use Rattle.push_history.specs.Journal.{Journal, journal_in, journal_of, rules_in
 use Rattle.push_history.specs.LagRun.{Worker, lag_run}
 use Rattle.push_history.specs.LiveHeavy.{live_keys, missed_keys}
 use Rattle.push_history.specs.Rounds.{AreRounds, IsRoundsJournal}
-use Rattle.push_history.specs.RoundStates.{round_state}
-use Rattle.push_history.proofs.RoundSteps.{SameRun}
+use Rattle.round_law.specs.RoundStates.{round_state}
+use Rattle.round_law.proofs.RoundSteps.{SameRun}
 use Rattle.round_law.specs.Outcome.{IsOutcome}
 use Rattle.round_law.proofs.Answered.{run_answers, told_answers}
 use Rattle.round_law.proofs.Ended.{pushes_are, refused_are}
-use Rattle.round_law.proofs.Fitting.{folded_values, rules_lawful, small_values, terms_laws}
+use Rattle.round_law.proofs.Fitting.{folded_values}
+use Rattle.push_history.proofs.Fitting.{rules_lawful, small_values, terms_laws, terms_len}
 use Rattle.round_law.proofs.Idle.{end_state, rounds_end}
-use Rattle.round_law.proofs.OwnRounds.{terms_len}
 
 abbrev made : Options → List (List ℕ) → List ℕ → List AnswerParts → List FlowKey → ℕ → Journal
 made o r p a l m = record { options = with_journal o; refused = r; pushes = p; answers = a; live = l; missed = m }

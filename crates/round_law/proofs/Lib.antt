@@ -1,11 +1,15 @@
-pub mod Lists
+pub mod RoundRuns
+pub mod RoundSteps
+pub mod AskLists
+pub mod AskParts
+pub mod RoundAnswers
+pub mod WorkLeft
 pub mod OwnRounds
 pub mod Measure
 pub mod Fitting
 pub mod Idle
 pub mod Firsts
 pub mod Looks
-pub mod Marked
 pub mod Ended
 pub mod Answered
 pub mod Journals

@@ -11,8 +11,8 @@ use Rattle.push_history.specs.Journal.{keys_of}
 use Rattle.push_history.specs.LagRun.{Terms, State}
 use Rattle.push_history.specs.LawfulRun.{IsLawfulState}
 use Rattle.push_history.specs.Shown.{shown_cells, told_cells}
-use Rattle.fold_law.proofs.Counted.{messages_in}
-use Rattle.round_law.specs.Outcome.{IsLook}
+use Rattle.bracket.proofs.Counted.{messages_in}
+use Rattle.push_history.specs.Looks.{IsLook}
 use Rattle.round_law.proofs.Firsts.{firsts_of, firsts_shown}
 
 pub look_parts : (t : Terms) → AreLaws t.rules → (o : Options) (q k : ℕ) (s : State) (a : Answer) → IsLawfulState t s → length s.workers ≡ o.workers → s.shown ≡ length s.folded

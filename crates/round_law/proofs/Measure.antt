@@ -8,10 +8,10 @@ use Rattle.hash_rows.specs.declared.options.Options.{Options}
 use Rattle.push_history.specs.declared.event.Reply.{Reply}
 use Rattle.push_history.specs.declared.event.Reply.TheVariants.{Counted, Over}
 use Rattle.push_history.specs.LagRun.{Terms, Worker, updates_by, count_step, meets_full, message_of, pushes}
-use Rattle.push_history.specs.OwnSteps.{counts, left_of, held_of, with_taken, own_round, counted_in_round, is_own_busy}
+use Rattle.push_history.specs.OwnSteps.{counts, left_of, held_of, with_taken, own_round, counted_in_round}
+use Rattle.round_law.proofs.WorkLeft.{is_own_busy, work_left}
 use Rattle.push_history.specs.Pushes.{distance_at}
 use Rattle.push_history.specs.Rounds.{is_waits}
-use Rattle.round_law.specs.OwnRounds.{work_left}
 
 -- no more counted than there are updates, no more taken than sent
 pub record IsWithin (t : Terms) (w : ℕ) (x : Worker) : Type 0 where

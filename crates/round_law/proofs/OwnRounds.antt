@@ -4,28 +4,18 @@ use Rattle.std.specs.List.{flat_map, range_with_len}
 use Rattle.std.proofs.lemmas.List.Folds.{list_any_none}
 use Rattle.std.proofs.lemmas.List.FromFn.{length-map-range_with_len, get_or-map-range_with_len, get_or-range_with_len, length-range_with_len}
 use Rattle.hash_rows.specs.declared.options.Options.{Options}
-use Rattle.hash_rows.specs.declared.shape.Packet.{Packet}
-use Rattle.push_history.specs.Journal.{terms_of, updates_by_options}
-use Rattle.push_history.specs.LagRun.{Terms, Worker, updates_by, worker_in, fresh_worker, lag_run, start}
+use Rattle.push_history.specs.LagRun.{Terms, Worker, worker_in, fresh_worker, lag_run, start}
 use Rattle.push_history.specs.LawfulRun.{IsLawfulState}
-use Rattle.push_history.specs.OwnSteps.{own_round, folded_in_round, is_own_busy}
-use Rattle.push_history.specs.RoundStates.{round_state, IsRound}
+use Rattle.push_history.specs.OwnSteps.{own_round, folded_in_round}
+use Rattle.round_law.proofs.WorkLeft.{is_own_busy}
+use Rattle.round_law.specs.RoundStates.{round_state}
+use Rattle.round_law.proofs.RoundSteps.{IsRound, round_run}
 use Rattle.push_history.specs.Rounds.{is_busy, events_of_rounds}
 use Rattle.push_history.proofs.Lists.{each_fails}
-use Rattle.push_history.proofs.RoundAnswers.{one_round_more}
-use Rattle.push_history.proofs.RoundRuns.{flat_map_same}
-use Rattle.push_history.proofs.RoundSteps.{round_run}
+use Rattle.round_law.proofs.RoundAnswers.{one_round_more}
+use Rattle.round_law.proofs.RoundRuns.{flat_map_same}
 use Rattle.push_history.proofs.RunLaws.{run_lawful}
 use Rattle.round_law.specs.OwnRounds.{own_rounds, folded_after}
-
--- as many lists of updates as workers
-pub terms_len : (packets : List Packet) (o : Options) → length (terms_of packets o).updates ≡ o.workers
-unfolding terms_of
-terms_len packets o = length-map-range_with_len (updates_by_options packets o) 0 o.workers
-
-pub updates_there : (packets : List Packet) (o : Options) (w : ℕ) → w < o.workers → updates_by (terms_of packets o) w ≡ updates_by_options packets o w
-unfolding terms_of
-updates_there packets o w lt = get_or-map-range_with_len (updates_by_options packets o) 0 o.workers w w [] lt (omega arith)
 
 -- each state after rounds is lawful
 pub rounds_lawful : (t : Terms) (o : Options) (n : ℕ) → IsLawfulState t (round_state t o n)

@@ -12,21 +12,18 @@ use Rattle.push_history.specs.declared.event.Event.{Event}
 use Rattle.push_history.specs.Front.{front_of, messages_of, upto_of, uptos_of}
 use Rattle.push_history.specs.Journal.{keys_of}
 use Rattle.push_history.specs.LagRun.{Terms, Worker, State, fresh_worker, lag_run, worker_in}
-use Rattle.push_history.specs.RoundStates.{round_state}
+use Rattle.round_law.specs.RoundStates.{round_state}
 use Rattle.push_history.specs.Rounds.{AreRounds}
 use Rattle.push_history.specs.Share.{zero_key}
 use Rattle.push_history.specs.Shown.{told_cells}
-use Rattle.fold_law.proofs.Counted.{messages_in}
+use Rattle.push_history.proofs.MoreMessages.{front_len, upto_firsts}
+use Rattle.bracket.proofs.Counted.{messages_in}
 use Rattle.round_law.specs.Outcome.{IsOutcome, IsWhole, MatchesFront}
 use Rattle.round_law.specs.OwnRounds.{folded_after}
 use Rattle.round_law.proofs.Firsts.{AreFirsts, rounds_firsts}
 use Rattle.round_law.proofs.Idle.{end_state}
-use Rattle.round_law.proofs.Lists.{all_grid, map_zip_from}
+use Rattle.push_history.proofs.PlaceLists.{all_grid, map_zip_from}
 use Rattle.round_law.proofs.OwnRounds.{round_len}
-
-pub front_len : (workers : ℕ) (messages : List Push) → length (front_of workers messages) ≡ workers
-unfolding front_of
-front_len workers messages = length-map-range_with_len (λ w. length (messages_of w messages)) 0 workers
 
 pub outcome_whole : (t : Terms) (o : Options) (rounds : ℕ) (bits : List (List Bool)) (pushes : List ℕ) (answers : List Answer) (live : List FlowKey) (missed : ℕ)
     → IsOutcome t o rounds bits pushes answers live missed → IsWhole o bits pushes answers
@@ -40,17 +37,6 @@ outcome_whole t o rounds bits pushes answers live missed h = record {
       (λ q k a low high is. ap length (h.answers_are q k a low high is).look.shown
       ∙ length-map (keys_of o) (t.rules.estimate o.shape (told_cells t.rules o.shape (folded_after t o (min (k + 1) rounds)))));
 }
-
--- the number after the first messages is that of the messages themselves
-upto_take : (messages : List Push) (j n : ℕ) → j ≤ n → upto_of (take n messages) j ≡ upto_of messages j
-unfolding upto_of
-upto_take messages zero n le = refl
-upto_take messages (suc i) n le =
-    ap (λ (m : Push). if suc i == 0 then 0 else m.update + 1)
-    (get_or-take n messages (suc i - 1) (record { worker = 0; packet = 0; update = 0; key = zero_key; cell = 0; amount = pos 0 }) (omega (arith, le)))
-
-pub upto_firsts : (xs all : List Push) → xs ≡ take (length xs) all → upto_of all (length xs) ≡ upto_of xs (length xs)
-upto_firsts xs all first = sym (upto_take all (length xs) (length xs) (omega arith)) ∙ ap (λ (l : List Push). upto_of l (length xs)) (sym first)
 
 -- the last updates of first messages are those at their front
 firsts_upto : (s : State) (workers : ℕ) (ms : List Push) → length s.workers ≡ workers → AreFirsts s ms

@@ -1,2 +1,3 @@
+pub mod RoundStates
 pub mod OwnRounds
 pub mod Outcome

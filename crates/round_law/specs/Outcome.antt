@@ -1,31 +1,22 @@
 -- What a run in rounds comes to.
 use Rattle.std.specs.Prelude.{◌≡◌, ◌<◌, ℕ, ℤ, ◌+◌, ◌*◌, ◌∷◌, List, [], All, Bool, false, Some, length, map, min, slice_get, slice_index_or}
 use Rattle.std.specs.List.{range_with_len, zip}
-use Rattle.fold_law.specs.Bracket.{IsNear}
+use Rattle.bracket.specs.Bracket.{IsNear}
 use Rattle.packet_key.specs.declared.key.FlowKey.{FlowKey}
 use Rattle.hash_rows.specs.declared.answer.Answer.{Answer}
 use Rattle.hash_rows.specs.declared.options.Options.{Options}
-use Rattle.hash_rows.specs.declared.shape.Push.{Push}
-use Rattle.hash_rows.specs.Rules.{Rules}
 use Rattle.hash_rows.specs.Sequential.{joined_of}
-use Rattle.push_history.specs.Front.{front_of, uptos_of, upto_of}
+use Rattle.push_history.specs.Front.{front_of, upto_of}
 use Rattle.push_history.specs.Journal.{keys_of}
 use Rattle.push_history.specs.LagRun.{Terms, Worker, State, updates_by, worker_in}
 use Rattle.push_history.specs.LiveHeavy.{live_keys, missed_keys}
 use Rattle.push_history.specs.Pushes.{is_refused}
 use Rattle.push_history.specs.Residue.{residue}
-use Rattle.push_history.specs.RoundStates.{round_state}
+use Rattle.round_law.specs.RoundStates.{round_state}
 use Rattle.push_history.specs.Rounds.{is_busy, events_of_rounds}
-use Rattle.push_history.specs.Shown.{told_cells}
 use Rattle.push_history.specs.Told.{told_of}
+use Rattle.push_history.specs.Looks.{IsLook}
 use Rattle.round_law.specs.OwnRounds.{folded_after}
-
--- what these messages tell, where all of them are shown
-pub record IsLook (r : Rules) (o : Options) (messages : List Push) (a : Answer) : Type 0 where
-  pub folded : a.folded ≡ length messages
-  pub front : a.front.items ≡ front_of o.workers messages
-  pub upto : a.upto.items ≡ uptos_of o.workers messages
-  pub shown : a.shown.items ≡ map (r.estimate o.shape (told_cells r o.shape messages)) (keys_of o)
 
 -- ask k of reader q is answered after round k + 1, or after the last round
 pub record IsAnswerAt (t : Terms) (o : Options) (rounds q k : ℕ) (a : Answer) : Type 0 where

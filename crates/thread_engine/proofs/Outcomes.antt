@@ -33,9 +33,9 @@ use Rattle.listed.specs.Listed.{Listed}
 use Rattle.live_state.specs.Shows.{Shows}
 use Rattle.live_state.proofs.Live.{shows_all}
 use Rattle.live_view.specs.Views.{WriterView}
-use Rattle.round_law.specs.Outcome.{IsLook}
-use Rattle.round_law.proofs.Lists.{map_at}
-use Rattle.round_law.proofs.Marked.{marked_is}
+use Rattle.push_history.specs.Looks.{IsLook}
+use Rattle.push_history.proofs.PlaceLists.{map_at}
+use Rattle.push_history.proofs.Marked.{marked_is}
 use Rattle.aggregate.specs.Takens.{taken_at}
 use Rattle.octo_engine.specs.Looks.{layout_in}
 use Rattle.thread_run.specs.declared.parts.ReaderPart.{ReaderPart}

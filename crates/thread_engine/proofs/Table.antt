@@ -27,7 +27,7 @@ use Rattle.push_rule.specs.Stands.{StandsFor}
 use Rattle.live_state.specs.Fold.{StateView, state_after}
 use Rattle.live_state.specs.Shows.{Shows}
 use Rattle.live_state.proofs.Live.{shows_all}
-use Rattle.round_law.proofs.Fitting.{rules_lawful}
+use Rattle.push_history.proofs.Fitting.{rules_lawful}
 use Rattle.octo_engine.specs.Looks.{layout_in}
 use Rattle.octo_engine.proofs.Outcomes.{told_len}
 use Rattle.thread_law.specs.Ran.{settled_of}

@@ -20,8 +20,7 @@ use Rattle.push_history.proofs.Telling.{amounts_are_values}
 use Rattle.fold_law.specs.Folds.{IsFoldOf}
 use Rattle.live_state.specs.Fold.{Fit, fits}
 use Rattle.live_state.specs.declared.layout.Layout.{Layout}
-use Rattle.round_law.proofs.Fitting.{Fits, FitsFor, own_updates_fit, rules_lawful, small_values}
-use Rattle.round_law.proofs.OwnRounds.{updates_there}
+use Rattle.push_history.proofs.Fitting.{Fits, FitsFor, own_updates_fit, rules_lawful, small_values, updates_there}
 use Rattle.thread_law.specs.Ran.{AreLawful, refused_by}
 
 -- each lawful message of a worker names it, and is for a cell of the table and a value of the kind

@@ -1,4 +1,3 @@
-pub mod Fronts
 pub mod Told
 pub mod Fitting
 pub mod Sequentials

@@ -18,13 +18,12 @@ use Rattle.push_history.specs.Journal.{keys_of, rules_in, terms_of}
 use Rattle.push_history.specs.LawfulJournal.{sent_by}
 use Rattle.push_history.specs.Pushes.{ArePushes}
 use Rattle.push_history.specs.Shown.{shown_cells, told_cells}
-use Rattle.fold_law.specs.Bracket.{IsNear, updates_of_worker}
-use Rattle.fold_law.proofs.Bracketed.{answer_below, answer_short}
+use Rattle.bracket.specs.Bracket.{IsNear, updates_of_worker}
+use Rattle.bracket.proofs.Bracketed.{answer_below, answer_short}
 use Rattle.fold_law.proofs.Sums.{count_min}
-use Rattle.round_law.proofs.Fitting.{rules_lawful}
-use Rattle.round_law.proofs.Lists.{all_grid}
-use Rattle.round_law.proofs.Near.{made_at, plain, rules_are}
-use Rattle.round_law.proofs.OwnRounds.{terms_len, updates_there}
+use Rattle.push_history.proofs.Fitting.{rules_lawful, terms_len, updates_there}
+use Rattle.push_history.proofs.PlaceLists.{all_grid, made_at}
+use Rattle.bracket.proofs.Plain.{plain, rules_are}
 use Rattle.thread_law.specs.Ran.{AreLawful, HasRan, ShowsNear, refused_by}
 use Rattle.thread_law.proofs.Told.{cells_shown, is_front}
 

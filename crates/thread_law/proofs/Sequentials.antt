@@ -28,7 +28,7 @@ use Rattle.push_history.proofs.Sharing.{sequential_is_wholes}
 use Rattle.push_history.proofs.Telling.{told_behind, whole_is}
 use Rattle.fold_law.specs.Folds.{IsFoldOf}
 use Rattle.thread_law.specs.Ran.{settled_of}
-use Rattle.round_law.proofs.Settled.{joined_both, range_values, told_flat}
+use Rattle.push_history.proofs.WorkerJoins.{joined_both, range_values, told_flat}
 use Rattle.thread_law.proofs.Fitting.{own_values}
 
 module _ (r : Rules) (laws : AreLaws r) (workers T : ℕ) (updates : ℕ → List Update) (messages : List (List Push)) (refused : ℕ → List ℕ) (folded : List Push) (same : length messages ≡ workers)

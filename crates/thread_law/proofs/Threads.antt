@@ -17,14 +17,13 @@ use Rattle.hash_rows.specs.declared.shape.Push.{Push}
 use Rattle.push_history.specs.Answers.{AnswerParts, parts_of}
 use Rattle.push_history.specs.Front.{IsFront, front_of}
 use Rattle.push_history.specs.Journal.{journal_in, keys_of, rules_in}
-use Rattle.push_history.specs.LawfulJournal.{AreOrdered, IsLawfulAnswer, IsThreadsJournal, LawfulWorkers, NoFurther, places_by, places_of}
+use Rattle.push_history.specs.LawfulJournal.{AreOrdered, IsLawfulAnswer, IsThreadsJournal, LawfulWorkers, NoFurther, places_by, places_of, IsLawfulHeavy}
 use Rattle.push_history.specs.LiveHeavy.{live_keys}
 use Rattle.push_history.specs.Shown.{shown_cells}
-use Rattle.fold_law.specs.Folds.{IsLawfulHeavy}
 use Rattle.fold_law.proofs.FoldLaw.{fold_lawful}
 use Rattle.thread_law.specs.Ran.{HasRan, IsAnswer, StandsAt}
-use Rattle.thread_law.proofs.Fronts.{front_sum, no_further}
-use Rattle.round_law.proofs.Lists.{all_grid, grid_at, map_grid}
+use Rattle.fold_law.proofs.Fronts.{front_sum, no_further}
+use Rattle.push_history.proofs.PlaceLists.{all_grid, grid_at, map_grid}
 use Rattle.thread_law.proofs.Told.{cells_shown, is_front}
 
 module _ (packets : List Packet) (o : Options) (messages : List (List Push)) (folded : List Push) (bits : List (List Bool)) (pushes : List ℕ) (answers : List Answer) (live : List FlowKey) (missed : ℕ)
@@ -143,7 +142,5 @@ module _ (packets : List Packet) (o : Options) (messages : List (List Push)) (fo
     places = places;
     answers = all_lawful;
     ordered = ordered;
-    live_table = heavy.live_table;
-    growing = heavy.growing;
-    alone = heavy.alone;
+    heavy = heavy;
   }

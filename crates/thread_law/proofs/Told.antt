@@ -14,12 +14,11 @@ use Rattle.push_history.specs.LawfulJournal.{sent_by}
 use Rattle.push_history.specs.Shown.{shown_cells, shown_of, told_cells}
 use Rattle.push_history.specs.Told.{told_of}
 use Rattle.push_history.proofs.Folded.{fold_shown}
-use Rattle.push_history.proofs.MoreMessages.{front_at}
+use Rattle.push_history.proofs.MoreMessages.{front_at, front_len, upto_firsts}
 use Rattle.push_history.proofs.Notes.{map_range_same}
 use Rattle.fold_law.specs.Folds.{IsFoldOf}
-use Rattle.round_law.proofs.Lists.{map_zip_from}
-use Rattle.round_law.proofs.Wholes.{front_len, upto_firsts}
-use Rattle.thread_law.proofs.Fronts.{begins_all}
+use Rattle.push_history.proofs.PlaceLists.{map_zip_from}
+use Rattle.fold_law.proofs.Fronts.{begins_all}
 
 module _ (messages : List (List Push)) (folded : List Push) (fold : IsFoldOf messages folded) (k : ℕ) where
   -- the worker's messages in the first k of the fold are its first ones

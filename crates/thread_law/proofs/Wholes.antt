@@ -12,8 +12,8 @@ use Rattle.push_history.specs.Front.{front_of, upto_of, uptos_of}
 use Rattle.push_history.specs.Journal.{keys_of, rules_in}
 use Rattle.push_history.specs.Shown.{told_cells}
 use Rattle.round_law.specs.Outcome.{IsWhole}
-use Rattle.round_law.proofs.Lists.{all_grid}
-use Rattle.round_law.proofs.Wholes.{front_len}
+use Rattle.push_history.proofs.PlaceLists.{all_grid}
+use Rattle.push_history.proofs.MoreMessages.{front_len}
 use Rattle.thread_law.specs.Ran.{HasRan, MatchesItsFront}
 use Rattle.thread_law.proofs.Told.{uptos_match}
 

@@ -15,9 +15,9 @@ use Rattle.push_history.specs.LiveHeavy.{live_keys, missed_keys}
 use Rattle.push_history.specs.Pushes.{LawfulPushes}
 use Rattle.push_history.specs.Residue.{residue}
 use Rattle.push_history.specs.Told.{told_of}
-use Rattle.fold_law.specs.Bracket.{IsNear}
+use Rattle.bracket.specs.Bracket.{IsNear}
 use Rattle.fold_law.specs.Folds.{IsFoldOf}
-use Rattle.round_law.specs.Outcome.{IsLook}
+use Rattle.push_history.specs.Looks.{IsLook}
 
 -- the refused updates of worker w are those whose bits are set
 abbrev pub refused_by : List (List Bool) → ℕ → List ℕ

@@ -1,6 +1,6 @@
 ghost use Rattle.std.specs.Prelude.{◌≡◌, [], pos, All, IfSome};
 ghost use Rattle.std.specs.Thread.{IsSync};
-ghost use Rattle.live_view.specs.Copies.{HasRoomFor};
+ghost use Rattle.live_state.specs.Copies.{HasRoomFor};
 ghost use Rattle.live_view.specs.Views.{layout_for};
 
 use count_min::CountMin;

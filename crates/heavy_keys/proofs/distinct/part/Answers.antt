@@ -12,10 +12,10 @@ loop-candidate-init c = (omega arith, record { lone_are = refl; rest_are = c.new
 
 pub loop-candidate-preserved : goal.loop-candidate-preserved
 loop-candidate-preserved c =
-    let d : Candidate = record { spread = 0; place = 0 } in
+    let d : Candidate = record { fingerprint = 0; place = 0 } in
     let here : Candidate = slice_index_or c.args.candidates.now c.loop-candidate.candidate-index d in
     let is : c.get.result ≡ is_shared c.args.shared.now here =
-    c.get.ensures ∙ ap (λ n. slice_index_or c.args.shared.now n false) (c.bit_in.ensures.bit ∙ ap (bit_of here.spread) c.len.ensures) in
+    c.get.ensures ∙ ap (λ n. slice_index_or c.args.shared.now n false) (c.bit_in.ensures.bit ∙ ap (bit_of here.fingerprint) c.len.ensures) in
     elim c.if-get.branch [
       | then-get+in_ok-push w ↦ (
         subst (λ n. n ≤ c.loop-candidate.candidate-index + 1) (sym w.lone-is) (omega (arith, c.loop-candidate.invariant.0)),

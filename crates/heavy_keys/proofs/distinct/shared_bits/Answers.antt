@@ -5,7 +5,7 @@ use Rattle.heavy_keys.proofs.Sharing.{sharing_more}
 use Rattle.heavy_keys.proofs.distinct.shared_bits.Goals as goal
 
 pub loop-candidate-preserved : goal.loop-candidate-preserved
-loop-candidate-preserved c = sharing_more c.bits_for-len.result (c.bits_for-len.result / 8) c.loop-candidate.candidate-index c.args.candidates.now (record { spread = 0; place = 0 })
+loop-candidate-preserved c = sharing_more c.bits_for-len.result (c.bits_for-len.result / 8) c.loop-candidate.candidate-index c.args.candidates.now (record { fingerprint = 0; place = 0 })
     c.loop-candidate.touched c.loop-candidate.shared c.touch.new.touched c.touch.new.shared c.loop-candidate-test.true c.touch.ensures.inside
     c.loop-candidate.invariant c.touch.ensures.touched c.touch.ensures.again c.touch.ensures.kept c.touch.ensures.length
 

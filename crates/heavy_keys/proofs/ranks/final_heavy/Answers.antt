@@ -12,6 +12,6 @@ returns g c =
     let keys : List FlowKey = map (λ (p : Packet). p.key) c.args.packets.now in
     let exact = to_z-of_z {w = w64} {z = c.args.least} c.ranges.least in
     let h : AreHeaviest estimate_of c.args.least keys 4294967295 c.in_ok-count.field-0.count c.in_ok-count.field-0.flows.items =
-      subst (λ z. AreHeaviest estimate_of z keys 4294967295 c.in_ok-count.field-0.count c.in_ok-count.field-0.flows.items) exact c.in_ok-count.ensures in
+    subst (λ z. AreHeaviest estimate_of z keys 4294967295 c.in_ok-count.field-0.count c.in_ok-count.field-0.flows.items) exact c.in_ok-count.ensures in
     let few : length h.all ≤ 4294967295 = omega (arith, h.number, c.if-count-from.false) in
     subst (λ (fs : List Flow). IsFinalHeavy estimate_of c.args.least keys fs) (sym (h.first ∙ take_all 4294967295 h.all few)) h.all_heavy

@@ -5,7 +5,7 @@ use Rattle.logbook.specs.Pages.{Book}
 use Rattle.live_state.specs.declared.layout.Layout.{Layout}
 use Rattle.live_state.specs.Fold.{StateView, IsStateAfter}
 use Rattle.live_view.specs.Views.{WriterView, ReaderView, PublishedView, layout_for}
-use Rattle.live_view.proofs.Lists.{one_longer}
+use Rattle.live_state.proofs.Lists.{one_longer}
 use Rattle.live_view.proofs.Turns.{empty, opens}
 use Rattle.live_view.proofs.pair.make_views.Goals as goal
 

@@ -3,7 +3,7 @@ use mathlib.Core.List.{IsPrefix}
 use Rattle.hash_rows.specs.declared.shape.Push.{Push}
 use Rattle.live_state.specs.Copies.{IsCopyOf}
 use Rattle.live_state.specs.Fold.{most, state_after}
-use Rattle.live_view.proofs.Prefixes.{prefix_self, prefix_trans}
+use Rattle.push_history.proofs.Prefixes.{prefix_self, prefix_trans}
 use Rattle.live_view.proofs.Settled.{asked_once, settled, rest_same}
 use Rattle.live_view.proofs.settling.settle.Goals as goal
 

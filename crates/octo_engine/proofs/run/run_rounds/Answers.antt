@@ -2,7 +2,7 @@ use Rattle.std.proofs.Common.{◌≡◌, ◌∙◌, List, length, drop, sym, ap,
 use Rattle.push_history.specs.Journal.{terms_of}
 use Rattle.round_law.proofs.Journals.{journal_of_rounds}
 use Rattle.round_law.proofs.Near.{answers_near}
-use Rattle.round_law.proofs.OwnRounds.{terms_len}
+use Rattle.push_history.proofs.Fitting.{terms_len}
 use Rattle.round_law.proofs.Wholes.{fronts_match, outcome_whole}
 use Rattle.octo_engine.specs.declared.worker.Part.{Part}
 use Rattle.octo_engine.specs.Rounds.{AreParts, IsEnd}

@@ -1,5 +1,5 @@
 use Rattle.push_history.specs.Journal.{terms_of}
-use Rattle.round_law.proofs.OwnRounds.{terms_len}
+use Rattle.push_history.proofs.Fitting.{terms_len}
 use Rattle.round_law.proofs.Wholes.{fronts_match}
 use Rattle.round_law.proofs.laws.answers_match_their_fronts.Goals as goal
 

@@ -1,4 +1,4 @@
-use Rattle.round_law.proofs.Fitting.{rules_lawful}
+use Rattle.push_history.proofs.Fitting.{rules_lawful}
 use Rattle.thread_law.specs.Ran.{refused_by}
 use Rattle.thread_law.proofs.Sequentials.{settled_sequential}
 use Rattle.thread_law.proofs.laws.ran_is_sequential.Goals as goal

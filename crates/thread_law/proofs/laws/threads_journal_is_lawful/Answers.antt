@@ -2,7 +2,7 @@ use Rattle.std.proofs.Common.{refl, subst, sym}
 use Rattle.hash_rows.specs.declared.options.Mode.{Mode}
 use Rattle.push_history.specs.Journal.{journal_in}
 use Rattle.push_history.specs.LawfulJournal.{IsJournalIn}
-use Rattle.round_law.proofs.Fitting.{rules_lawful}
+use Rattle.push_history.proofs.Fitting.{rules_lawful}
 use Rattle.thread_law.proofs.Threads.{threads_journal}
 use Rattle.thread_law.proofs.laws.threads_journal_is_lawful.Goals as goal
 

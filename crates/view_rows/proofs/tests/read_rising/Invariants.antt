@@ -1,5 +1,5 @@
 use Rattle.std.proofs.Common.{◌≡◌}
-use Rattle.live_view.specs.Copies.{HasRoomFor}
+use Rattle.live_state.specs.Copies.{HasRoomFor}
 use Rattle.view_rows.proofs.tests.read_rising.Given as goal
 
 abbrev pub invariant-loop : goal.invariant-loop

@@ -7,4 +7,4 @@ use Rattle.heavy_keys.proofs.heavy.Heavy.is_found.Goals as goal
 pub returns-in-Some : goal.returns-in-Some
 returns-in-Some c = λ same.
     sym (ap (λ (t : HeavyTable). is_among t.keys c.args.key.now) c.self.view_is)
-    ∙ found_at c.self.inside.keys.entries c.get-place.result.now c.in-Some.known.now c.in-Some.field-0-1.now c.args.key.now c.in-Some.ensures.entry (sym c.is_same_key.ensures ∙ same)
+    ∙ found_at c.self.inside.keys.entries c.get-place.result.now c.in-Some.known.now c.in-Some.field-0-1.now c.args.key.now c.in-Some.ensures.entry (sym c.same_key.ensures.test ∙ same)

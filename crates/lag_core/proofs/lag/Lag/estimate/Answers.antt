@@ -5,7 +5,7 @@ use Rattle.push_history.specs.declared.event.Event.{Event}
 use Rattle.push_history.specs.Front.{front_of}
 use Rattle.push_history.specs.Shown.{shown_cells}
 use Rattle.lag_core.specs.declared.lag.Lag.TheView.{view}
-use Rattle.lag_core.specs.Lags.{Core, StandsFor, sent_by_each, shown_messages, state_after, workers_of}
+use Rattle.lag_core.specs.Lags.{Core, HasRun, sent_by_each, shown_messages, run_state, workers_of}
 use Rattle.lag_core.proofs.Reading.{cells_are}
 use Rattle.lag_core.proofs.Near.{near_shown}
 use Rattle.lag_core.proofs.Sizes.{cells_length, cells_values}
@@ -32,9 +32,9 @@ returns-clause-shown g c =
     let V : Core g.row.K-Held.Denot = view g.row.K.Denot g.row.K-Held.Denot g.K.Kind c.self.inside in
     let h = c.self.invariant.1 in
     let exact : to_z w64 (of_z w64 c.estimate.result) ≡ c.estimate.result = search rules in
-    subst (λ (o : Core g.row.K-Held.Denot). (events : List Event) → StandsFor g.K.Kind.stands r o events
-    → to_z w64 (of_z w64 c.estimate.result) ≡ r.estimate o.shape (shown_cells r o.shape (sent_by_each (state_after r o events)) (front_of (workers_of o) (shown_messages (state_after r o events)))) c.args.key.now) c.self.view_is
-    (λ events at. exact ∙ c.estimate.ensures ∙ ap (λ (l : List ℤ). r.estimate V.shape l c.args.key.now) (c.cells.ensures ∙ cells_are g.K.Kind.stands r (g.met.K.Kind g.world.𝓛 g.world.𝓜 g.world.𝓡 ((λ x y. y), (λ x. x), (λ x. x), (λ x. x))).laws V (state_after r V events) at))
+    subst (λ (o : Core g.row.K-Held.Denot). (events : List Event) → HasRun g.K.Kind.stands r o events
+    → to_z w64 (of_z w64 c.estimate.result) ≡ r.estimate o.shape (shown_cells r o.shape (sent_by_each (run_state r o events)) (front_of (workers_of o) (shown_messages (run_state r o events)))) c.args.key.now) c.self.view_is
+    (λ events at. exact ∙ c.estimate.ensures ∙ ap (λ (l : List ℤ). r.estimate V.shape l c.args.key.now) (c.cells.ensures ∙ cells_are g.K.Kind.stands r (g.met.K.Kind g.world.𝓛 g.world.𝓜 g.world.𝓡 ((λ x y. y), (λ x. x), (λ x. x), (λ x. x))).laws V (run_state r V events) at))
 
 pub returns-clause-near : goal.returns-clause-near
 returns-clause-near g c = λ is amounts events at.

@@ -11,7 +11,6 @@ use Rattle.push_rule.specs.Stands.{PrivateView}
 use Rattle.lag_core.specs.Lags.{Core, workers_of}
 use Rattle.lag_core.specs.Lanes.{Queue, fresh_lane}
 use Rattle.lag_core.specs.Workers.{IsFreshSketch, terms_of}
-use Rattle.lag_core.proofs.CoreLaws.{conserves_at, lawful_at}
 use Rattle.lag_core.proofs.Fresh.{core_fresh, zeros}
 use Rattle.std.proofs.lemmas.Option.{slice_get_within}
 use Rattle.std.proofs.lemmas.Slice.Zip.{AllZip-long}
@@ -60,9 +59,3 @@ invariant_of-result g c =
 pub returns-clause-fresh : goal.returns-clause-fresh
 unfolding invariant_of-result
 returns-clause-fresh g c = (invariant_of-result g c).1
-
-pub returns-clause-lawful : goal.returns-clause-lawful
-returns-clause-lawful g c = λ events at. lawful_at g.K.Kind.stands g.K.Kind.rules _ _ at
-
-pub returns-clause-conserves : goal.returns-clause-conserves
-returns-clause-conserves g c = λ events at. conserves_at g.K.Kind.stands g.K.Kind.rules _ _ at (g.met.K.Kind g.world.𝓛 g.world.𝓜 g.world.𝓡 ((λ x y. y), (λ x. x), (λ x. x), (λ x. x))).laws

@@ -3,7 +3,7 @@ use Rattle.push_history.specs.declared.event.Event.{Event}
 use Rattle.push_history.specs.LagRun.{updates_by, worker_in}
 use Rattle.push_history.specs.Residue.{residue}
 use Rattle.lag_core.specs.declared.lag.Lag.TheView.{view}
-use Rattle.lag_core.specs.Lags.{Core, StandsFor, state_after, workers_of}
+use Rattle.lag_core.specs.Lags.{Core, HasRun, run_state, workers_of}
 use Rattle.lag_core.specs.Workers.{terms_of}
 use Rattle.lag_core.proofs.Reading.{residue_first}
 use Rattle.lag_core.proofs.Sizes.{read_at, some_at}
@@ -19,10 +19,10 @@ returns g c =
     let sketch_at = read_at c.self.inside.sketches.items w c.index.result.now (omega (arith, below, h.sketches)) c.index.ensures in
     let lane = some_at c.self.inside.lanes.items w (omega (arith, below, h.lanes)) in
     let exact : to_z w64 (of_z w64 c.residue.result) ≡ c.residue.result = search rules in
-    subst (λ (o : Core g.row.K-Held.Denot). (events : List Event) → StandsFor g.K.Kind.stands r o events
-    → to_z w64 (of_z w64 c.residue.result) ≡ residue r (updates_by (terms_of r o.limits) w) (worker_in (state_after r o events) w).sent (worker_in (state_after r o events) w).counted c.args.cell) c.self.view_is
+    subst (λ (o : Core g.row.K-Held.Denot). (events : List Event) → HasRun g.K.Kind.stands r o events
+    → to_z w64 (of_z w64 c.residue.result) ≡ residue r (updates_by (terms_of r o.limits) w) (worker_in (run_state r o events) w).sent (worker_in (run_state r o events) w).counted c.args.cell) c.self.view_is
     (λ events at.
-    let x = worker_in (state_after r V events) w in
+    let x = worker_in (run_state r V events) w in
     let its = at.each w c.index.result.now lane.0 sketch_at lane.1 in
     exact ∙ c.residue.ensures.stands (take x.counted (updates_by (terms_of r V.limits) w)) x.sent x.refused its.sketch
     ∙ residue_first r (updates_by (terms_of r V.limits) w) x.sent x.counted c.args.cell its.within)

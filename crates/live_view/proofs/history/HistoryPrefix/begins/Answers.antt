@@ -1,7 +1,7 @@
 use Rattle.std.proofs.Common.{◌≤◌, ap, subst, length, List}
 use mathlib.Core.List.{IsPrefix}
 use Rattle.hash_rows.specs.declared.shape.Push.{Push}
-use Rattle.live_view.proofs.Prefixes.{prefix_shorter}
+use Rattle.push_history.proofs.Prefixes.{prefix_shorter}
 use Rattle.live_view.proofs.history.HistoryPrefix.begins.Goals as goal
 
 pub returns : goal.returns

@@ -1,0 +1,4 @@
+pub mod Bracket
+pub mod Bracketed
+pub mod Counted
+pub mod Plain

@@ -1,7 +1,0 @@
-use Rattle.std.proofs.Common.{◌≡◌, ℕ, ◌<◌, [], length, get_or}
-use Rattle.std.specs.Global.{Vec}
-use Rattle.heavy_keys.specs.declared.candidates.Candidate.{Candidate}
-use Rattle.heavy_keys.proofs.parts.Parts.new.Given as goal
-
-abbrev pub invariant-loop : goal.invariant-loop
-invariant-loop l = (length l.lists.items ≡ l.counter) × ((part : ℕ) (none : Vec Candidate) → part < l.counter → (get_or l.lists.items part none).items ≡ [])

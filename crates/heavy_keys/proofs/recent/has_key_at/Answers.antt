@@ -1,8 +1,0 @@
-use Rattle.std.proofs.Common.{◌∙◌, sym}
-use Rattle.packet_key.specs.declared.key.FlowKey.TheVariants.{V4}
-use Rattle.heavy_keys.proofs.KeyOrder.{has_key}
-use Rattle.heavy_keys.proofs.recent.has_key_at.Goals as goal
-
-pub returns-then-place-packets : goal.returns-then-place-packets
-returns-then-place-packets c = λ same.
-    has_key c.args.packets.now c.args.place (record { key = V4 0 0 0 0 0; amount = 0 }) c.args.key.now c.if-place-packets.true (sym c.is_same_key.ensures ∙ same)
