@@ -1,5 +1,5 @@
 -- What the parts of a run come to.
-use Rattle.std.proofs.Common.{◌≡◌, ◌<◌, ◌≤◌, ℕ, ℤ, ◌+◌, ◌*◌, ◌^◌, Bool, false, true, List, [], ◌++◌, ◌∷◌, length, get_or, map, take, Some, refl, sym, ap, ap₂, ◌∙◌, subst, arith, inl, inr, All}
+use Rattle.std.proofs.Common.{◌≡◌, ◌<◌, ◌≤◌, ℕ, ℤ, ◌+◌, ◌*◌, ◌^◌, Bool, false, true, if◌then◌else◌, List, [], ◌++◌, ◌∷◌, length, get_or, map, take, Some, refl, sym, ap, ap₂, ◌∙◌, subst, arith, inl, inr, All}
 use Rattle.std.specs.Prelude.{slice_get}
 use Rattle.std.specs.List.{flat_map}
 use mathlib.Core.List.{IsPrefix}
@@ -20,9 +20,10 @@ use Rattle.hash_rows.specs.declared.shape.Update.{Update}
 use Rattle.push_history.specs.Front.{front_of, messages_of}
 use Rattle.push_history.specs.Journal.{keys_of, rules_in, updates_by_options}
 use Rattle.push_history.specs.LawfulJournal.{sent_by}
-use Rattle.push_history.specs.LiveHeavy.{live_keys, missed_keys}
+use Rattle.push_history.specs.LiveHeavy.{live_keys, live_of, missed_keys}
 use Rattle.push_history.specs.Pushes.{LawfulPushes}
 use Rattle.push_history.specs.Shown.{told_cells}
+use Rattle.push_history.proofs.MoreMessages.{front_len}
 use Rattle.push_history.proofs.Sharing.{updates_len}
 use Rattle.push_lane.specs.Views.{BothView, LaneView}
 use Rattle.fold_law.specs.Folds.{IsFoldOf}
@@ -248,3 +249,22 @@ module _ {K H : Type 0} (stands : H → ℤ → ℤ → Type 0) (r : Rules) (o :
         let e = its_end stands r o packets is lanes ended writer h w lt in
         let done = (done_at stands r o packets is lanes ended writer h w e lt).1 in
         ap (λ (x : BothView). x.fulls) (pass_at w p e lt) ∙ done.fulls leaves ∙ ap length (sym (refused_is stands r o packets is lanes ended writer h bits rows w e lt))
+
+live_few_by : (limit : ℕ) (keys : List FlowKey) (b : Bool) → length (if b then take limit keys else []) ≤ limit
+live_few_by limit keys true = omega (arith, length-take limit keys)
+live_few_by limit keys false = omega arith
+
+-- no more live keys than the table has room for
+pub live_few : (r : Rules) (shape : Shape) (limit : ℕ) (least : ℤ) (messages : List Push) → length (live_keys r shape limit least messages) ≤ limit
+unfolding live_keys live_of
+live_few r shape limit least messages = live_few_by limit _ r.keyed
+
+-- the heavy keys of the last state, and the counts of its messages, have room
+pub state_fits : (r : Rules) (o : Options) (messages : List Push) (s : StateView) → Fit r (layout_in o) messages → length messages < 2 ^ 64 → s ≡ state_after r (layout_in o) messages
+    → (length s.heavy.keys ≤ o.heavy) × (length s.front ≡ o.workers)
+state_fits r o messages s fit few is =
+    let seen : Shows r (layout_in o) messages (state_after r (layout_in o) messages) = shows_all r (layout_in o) messages fit (omega (arith, few)) in
+    (
+      omega (arith, ap (λ (x : StateView). length x.heavy.keys) is ∙ ap length seen.keys, live_few r o.shape o.heavy o.least messages),
+      ap (λ (x : StateView). length x.front) is ∙ ap length seen.front ∙ front_len o.workers messages,
+    )

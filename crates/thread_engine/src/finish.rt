@@ -29,19 +29,19 @@ use thread_run::{FoldPart, RestPart, WorkerPart};
 fn publish_all<K: Kind, R: Wait>(
     rt: &R,
     lanes: &[Lane],
-    ended: &mut [Ended<K>],
+    ended: &mut Vec<Ended<K>>,
     writer: &mut ViewWriter<K>,
 ) -> Result<(), NoMemory>
-    requires len { length ended.old ≡ length lanes.now }
-    requires ids { (w : ℕ) (l : LaneView) (e : _) → w < length lanes.now → (slice_index_or ended.old w e).pass.id ≡ (slice_index_or lanes.now w l).id }
-    requires kept { AreKept K.rules writer.old.layout (sents_in ended.old) (takens_in ended.old) (kept_in writer.old) }
-    ensures same { OnOk result (SameEnds ended.old ended.new) }
+    requires len { length ended.old.items ≡ length lanes.now }
+    requires ids { (w : ℕ) (l : LaneView) (e : _) → w < length lanes.now → (slice_index_or ended.old.items w e).pass.id ≡ (slice_index_or lanes.now w l).id }
+    requires kept { AreKept K.rules writer.old.layout (sents_in ended.old.items) (takens_in ended.old.items) (kept_in writer.old) }
+    ensures same { OnOk result (SameEnds ended.old.items ended.new.items) }
     ensures writer { OnOk result (KeepsWriter writer.old writer.new) }
-    ensures kept { OnOk result (AreKept K.rules writer.new.layout (sents_in ended.new) (takens_in ended.new) writer.new.published) }
-    ensures drained { OnOk result (takens_in ended.new ≡ sents_in ended.new) }
+    ensures kept { OnOk result (AreKept K.rules writer.new.layout (sents_in ended.new.items) (takens_in ended.new.items) writer.new.published) }
+    ensures drained { OnOk result (takens_in ended.new.items ≡ sents_in ended.new.items) }
     ensures pending { OnOk result (writer.new.pending ≡ []) }
 {
-    drain_all(rt, lanes, ended, writer)?;
+    drain_all(rt, lanes, ended.as_mut_slice(), writer)?;
     writer.publish(rt);
     Ok(())
 }
@@ -76,7 +76,7 @@ pub fn finish<K: Kind, R: Wait>(
         return Err(NoMemory);
     }
     let mut ended = end_all(rt, lanes.as_slice(), workers, outs, ended);
-    if publish_all(rt, lanes.as_slice(), ended.as_mut_slice(), &mut writer).is_err() {
+    if publish_all(rt, lanes.as_slice(), &mut ended, &mut writer).is_err() {
         writer.close(rt);
         return Err(NoMemory);
     }

@@ -75,7 +75,7 @@ pub fn outcome_of<K: Kind, R: Wait>(
         mut state,
         mut look,
     } = room;
-    tell_all(rt, &mut writer, readers.as_mut_slice(), keys.as_slice(), &mut look);
+    tell_all(rt, &mut writer, &mut readers, keys.as_slice(), &mut look);
     let _few = writer.folded();
     writer.copy_state(rt, &mut state);
     gather_answers(readers, &mut answers);

@@ -30,8 +30,8 @@ fn tell_one<K: Kind, R: Wait>(
     settle(rt, writer, &mut reader.view, keys, look);
 }
 
-/// Tells each reader, which asks until it knows all of it.
-pub fn tell_all<K: Kind, R: Wait>(
+// Tells each reader.
+fn tell_each<K: Kind, R: Wait>(
     rt: &R,
     writer: &mut ViewWriter<K>,
     readers: &mut [ReaderPart<K>],
@@ -46,4 +46,20 @@ pub fn tell_all<K: Kind, R: Wait>(
     for place in 0..readers.len() {
         tell_one(rt, writer, &mut readers[place], keys, look);
     }
+}
+
+/// Tells all readers, which ask until they know all of it.
+pub fn tell_all<K: Kind, R: Wait>(
+    rt: &R,
+    writer: &mut ViewWriter<K>,
+    readers: &mut Vec<ReaderPart<K>>,
+    keys: &[FlowKey],
+    look: &mut Answer,
+)
+    requires pairs { AreOfPair writer.old readers.old.items }
+    requires room { HasRoomFor writer.old.layout.workers keys.now look.old }
+    ensures writer { writer.new ≡ writer.old }
+    ensures learnt { HaveLearnt writer.old.published readers.old.items readers.new.items }
+{
+    tell_each(rt, writer, readers.as_mut_slice(), keys, look);
 }

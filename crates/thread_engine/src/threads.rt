@@ -68,7 +68,10 @@ pub fn run_threads<K: Kind, R: Threads + Wait + Sync, G: Gate>(
     } = start_of(rt, alloc, packets, options)?;
     let rest = rest_of(rt, alloc, options, &keys, outs, sheets, readers)?;
     let workers = workers.into_items();
-    run_parts(rt, packets, options, gate, &keys, lanes, workers, rest, ended, room)
+    let ran = run_parts(
+        rt, packets, options, gate, &keys, lanes, workers, rest, ended, room,
+    )?;
+    Ok(ran)
 }
 
 // Runs the parts beside each other, and brings together what they leave.

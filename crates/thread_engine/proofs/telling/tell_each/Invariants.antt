@@ -1,7 +1,7 @@
 use Rattle.std.proofs.Common.{◌≡◌}
 use Rattle.live_state.specs.Copies.{HasRoomFor}
 use Rattle.thread_engine.proofs.Learning.{HaveLearntTo}
-use Rattle.thread_engine.proofs.telling.tell_all.Given as goal
+use Rattle.thread_engine.proofs.telling.tell_each.Given as goal
 
 abbrev pub invariant-loop-place : goal.invariant-loop-place
 invariant-loop-place g l =

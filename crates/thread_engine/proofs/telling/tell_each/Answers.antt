@@ -1,10 +1,10 @@
-use Rattle.std.proofs.Common.{◌≡◌, ◌<◌, ◌∙◌, length, refl, sym, ap, subst, arith}
+use Rattle.std.proofs.Common.{◌≡◌, ◌<◌, ◌≤◌, ◌∙◌, length, refl, sym, ap, subst, arith}
 use mathlib.Core.List.{IsPrefix}
 use Rattle.live_state.specs.Copies.{HasRoomFor}
 use Rattle.live_view.specs.Views.{WriterView}
 use Rattle.thread_engine.specs.Tells.{IsOfPair}
 use Rattle.thread_engine.proofs.Learning.{learnt_more}
-use Rattle.thread_engine.proofs.telling.tell_all.Goals as goal
+use Rattle.thread_engine.proofs.telling.tell_each.Goals as goal
 
 pub loop-place-init : goal.loop-place-init
 loop-place-init g c = (
@@ -33,3 +33,9 @@ loop-place-preserved g c =
       learnt_more c.args.writer.now c.args.readers.now at.readers at.place one new was.2 (omega (arith, len, c.loop-place-test.true)) e.answers
           (subst (λ (w : WriterView). IsOfPair w new.view) was.0 e.pair) (subst (λ (w : WriterView). IsPrefix _ w.published) was.0 e.known),
     )
+
+pub returns-clause-learnt : goal.returns-clause-learnt
+returns-clause-learnt g c =
+    let was = c.loop-place.invariant.2 in
+    let past : length c.args.readers.now ≤ c.loop-place.place = omega (arith, was.len) in
+    record { len = was.len; answers = λ q p lt. was.answers q p; known = λ q p lt. was.known q p (omega (arith, lt, past)) }
