@@ -41,7 +41,8 @@ pub fn given_of<K: Kind>(
     requires few { length packets.now ≤ 16777216 }
     requires short { IsShort journal.now }
     requires workers { HasWorkers journal.now }
-    ensures failure { IfOk result (λ given. given.failure ≡ first_failing (all_worker_tests packets.now journal.now.options (content_of journal.now))) }
+    ensures failure { IfOk result (λ given. given.failure
+        ≡ first_failing (all_worker_tests packets.now journal.now.options (content_of journal.now))) }
     ensures messages { IfOk result (λ given. given.failure ≡ None
         → map (λ v. v.items) given.messages.items ≡ all_given packets.now journal.now.options (content_of journal.now)) }
 {
@@ -78,8 +79,10 @@ fn given_worker<K: Kind>(
     requires workers { HasWorkers journal.now }
     requires owners { AreOwners journal.now.options packets.now owners.now }
     requires worker { worker < journal.now.options.workers }
-    ensures messages { IfOk result (λ given. given.messages.items ≡ given_by packets.now journal.now.options (content_of journal.now) worker) }
-    ensures failure { IfOk result (λ given. given.failure ≡ first_failing (worker_tests packets.now journal.now.options (content_of journal.now) worker)) }
+    ensures messages { IfOk result (λ given. given.messages.items
+        ≡ given_by packets.now journal.now.options (content_of journal.now) worker) }
+    ensures failure { IfOk result (λ given. given.failure
+        ≡ first_failing (worker_tests packets.now journal.now.options (content_of journal.now) worker)) }
 {
     let options = &journal.options;
     let positions = positions_of(alloc, owners, worker, packets, options)?;

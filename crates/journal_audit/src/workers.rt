@@ -110,9 +110,9 @@ fn fault_failure(journal: &Journal, worker: u32, fault: Fault) -> Failure
 fn past_failure(journal: &Journal, worker: u32, updates: u32) -> Option<Failure>
     requires short { IsShort journal.now }
     requires worker { worker < length journal.now.refused.items }
-    ensures { MatchOption result (NonePast (refused_by (content_of journal.now) worker) updates)
-        (λ failure. (k : ℕ) × IsFirstPast (refused_by (content_of journal.now) worker) updates k
-        × (failure ≡ record { line = refused_line (content_of journal.now) worker k; kept = Value.Number k; lawful = Value.Number updates })) }
+    ensures { let j = content_of journal.now in MatchOption result (NonePast (refused_by j worker) updates)
+        (λ failure. (k : ℕ) × IsFirstPast (refused_by j worker) updates k
+        × (failure ≡ record { line = refused_line j worker k; kept = Value.Number k; lawful = Value.Number updates })) }
 {
     let refused = journal.refused.get(worker);
     if updates > refused.len() {
