@@ -12,12 +12,12 @@ mod captures;
 #[cfg(test)]
 mod faults;
 #[cfg(test)]
-mod journals;
-#[cfg(test)]
 mod refusals;
 #[cfg(test)]
-mod reports;
-#[cfg(test)]
 mod runs;
+#[cfg(test)]
+mod worked_journals;
+#[cfg(test)]
+mod worked_reports;
 #[cfg(test)]
 mod workers;
