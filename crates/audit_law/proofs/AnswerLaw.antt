@@ -1,8 +1,7 @@
 -- None of the tests of the answers fails exactly where they are lawful and ordered.
-use Rattle.std.proofs.Common.{◌≡◌, ◌<◌, ◌≤◌, ℕ, ℤ, pos, zero, suc, ◌+◌, ◌-◌, ◌==◌, ◌||◌, List, [], ◌∷◌, ◌++◌, length, map, get_or, Bool, true, false, if◌then◌else◌, nat_le, refl, sym, ap, ◌∙◌, subst, arith, ◌⊎◌, inl, inr}
-use Rattle.std.specs.Prelude.{All, Contains, sum}
+use Rattle.std.proofs.Common.{◌≡◌, ◌<◌, ◌≤◌, ℕ, ℤ, pos, zero, suc, ◌+◌, ◌-◌, ◌==◌, List, [], ◌++◌, length, map, get_or, Bool, true, false, if◌then◌else◌, nat_le, refl, sym, ap, ◌∙◌, subst, arith, ◌⊎◌, inl, inr}
+use Rattle.std.specs.Prelude.{All, sum}
 use Rattle.std.specs.List.{flat_map, list_all, range_with_len}
-use Rattle.std.specs.Ordering.{int_eq}
 use Rattle.std.proofs.Math.Nat.{eq-or-lt_of_le}
 use Rattle.std.proofs.lemmas.Bool.{eqb-true, eqb-false, eq-eqb, leb-true, le-leb, and_parts, and_from, or_cases, or_left, or_right, cases_lt, cases_order}
 use Rattle.std.proofs.lemmas.Bool.Decides.{Decides-int_eq}
@@ -12,14 +11,13 @@ use Rattle.packet_key.specs.declared.key.FlowKey.{FlowKey}
 use Rattle.hash_rows.specs.declared.options.Options.{Options}
 use Rattle.hash_rows.specs.declared.shape.Push.{Push}
 use Rattle.push_history.specs.Answers.{AnswerParts}
-use Rattle.push_history.specs.Front.{IsFront}
 use Rattle.push_history.specs.Journal.{Journal, keys_of, rules_in}
 use Rattle.push_history.specs.LawfulJournal.{sent_by, IsLawfulAnswer, NoFurther, AreOrdered}
 use Rattle.push_history.specs.Share.{zero_key}
 use Rattle.push_history.specs.Shown.{shown_cells}
 use Rattle.audit_law.specs.Forms.{HasForm, HasPlaces}
 use Rattle.audit_law.specs.LineNumbers.{answer_line}
-use Rattle.audit_law.specs.Tests.{Test, first_failing}
+use Rattle.audit_law.specs.Tests.{Test}
 use Rattle.audit_law.specs.AnswerTests.{no_answer, answer_at, place_in, within_test, rising_test, is_no_further, order_test, estimate_shown, estimate_test, rising_tests, answer_tests}
 use Rattle.audit_law.proofs.Holding.{Hold, hold_head, hold_tail, hold_cons, hold_nil, hold_front, hold_back, hold_append, hold_each, hold_range, holds_each, holds_range}
 use Rattle.audit_law.proofs.PlaceLaw.{by_number, between, later_number, before_it}

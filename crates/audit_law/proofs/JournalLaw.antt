@@ -1,5 +1,5 @@
 -- None of the tests of a journal fails exactly where it is lawful for a run in threads.
-use Rattle.std.proofs.Common.{◌≡◌, ◌++◌, List, length, subst, sym, ap, arith}
+use Rattle.std.proofs.Common.{◌++◌, List, length, subst}
 use Rattle.std.specs.Prelude.{All}
 use Rattle.std.specs.List.{flat_map, range_with_len}
 use Rattle.hash_rows.specs.declared.options.Options.{Options}
@@ -8,7 +8,7 @@ use Rattle.hash_rows.specs.declared.shape.Push.{Push}
 use Rattle.push_history.specs.Journal.{Journal}
 use Rattle.push_history.specs.LawfulJournal.{IsThreadsJournal, LawfulWorkers, IsLawfulAnswer}
 use Rattle.audit_law.specs.Forms.{HasForm}
-use Rattle.audit_law.specs.Tests.{Test, first_failing}
+use Rattle.audit_law.specs.Tests.{Test}
 use Rattle.audit_law.specs.WorkerTests.{all_given, all_worker_tests}
 use Rattle.audit_law.specs.AnswerTests.{answer_tests}
 use Rattle.audit_law.specs.LiveTests.{live_tests, missed_tests}

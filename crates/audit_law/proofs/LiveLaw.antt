@@ -1,9 +1,9 @@
 -- None of the tests of the live keys and of how many were missed fails exactly where they are lawful.
-use Rattle.std.proofs.Common.{◌≡◌, ◌<◌, ◌≤◌, ◌≤ℤ◌, ℕ, ℤ, zero, suc, ◌+◌, ◌-◌, ◌==◌, ◌||◌, ◌&&◌, not, List, [], ◌∷◌, ◌++◌, length, map, get_or, take, cond, Bool, true, false, if◌then◌else◌, nat_lt, nat_le, refl, sym, ap, ◌∙◌, subst, arith, ◌⊎◌, inl, inr, true≢false}
-use Rattle.std.specs.Prelude.{All, Contains, count_by, int_le}
-use Rattle.std.specs.List.{flat_map, list_any, range_with_len, IsDistinct, AllByRecursion}
+use Rattle.std.proofs.Common.{◌≡◌, ◌<◌, ◌≤◌, ◌≤ℤ◌, ℕ, ℤ, zero, suc, ◌+◌, ◌==◌, ◌||◌, ◌&&◌, not, List, [], ◌∷◌, ◌++◌, length, map, get_or, take, cond, Bool, true, false, if◌then◌else◌, nat_lt, nat_le, refl, sym, ap, ◌∙◌, subst, arith, ◌⊎◌, inl, inr, true≢false}
+use Rattle.std.specs.Prelude.{Contains, count_by, int_le}
+use Rattle.std.specs.List.{flat_map, range_with_len, IsDistinct, AllByRecursion}
 use Rattle.std.proofs.lemmas.Bool.{eqb-true, eq-eqb, leb-true, le-leb, ltb-true, lt-ltb, and_parts, and_from, or_cases, or_left, or_right, not-true, cases_lt}
-use Rattle.std.proofs.lemmas.List.{get_or_past, get_or_default, ext_get_or, nil_from_length, length-append, append-nil}
+use Rattle.std.proofs.lemmas.List.{get_or_default, ext_get_or, nil_from_length, length-append, append-nil}
 use Rattle.std.proofs.lemmas.List.Sums.{sum_by-cons}
 use Rattle.packet_key.specs.declared.key.FlowKey.{FlowKey}
 use Rattle.packet_key.specs.contracts.key.FlowKeyEq.TheImpl.Laws.{laws-law}
@@ -18,8 +18,7 @@ use Rattle.push_history.specs.LawfulJournal.{sent_by, all_of, not_live, sure_mis
 use Rattle.push_history.specs.LiveHeavy.{is_among, live_keys, missed_keys, live_of, missed_of, notes_of}
 use Rattle.push_history.specs.Share.{zero_key}
 use Rattle.push_history.proofs.Notes.{notes_none}
-use Rattle.audit_law.specs.LineNumbers.{live_line, missed_line}
-use Rattle.audit_law.specs.Tests.{Test, first_failing}
+use Rattle.audit_law.specs.Tests.{Test}
 use Rattle.audit_law.specs.LiveTests.{is_loglog, is_count_min, key_at, some_sent, is_lone, live_alone, missed_alone, is_sent_key, twice_test, place_tests, live_tests, missed_tests}
 use Rattle.audit_law.proofs.Holding.{Hold, hold_head, hold_tail, hold_cons, hold_nil, hold_front, hold_back, hold_append, hold_each, hold_range, holds_each, holds_range, unless}
 

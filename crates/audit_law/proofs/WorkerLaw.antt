@@ -1,11 +1,10 @@
 -- None of the tests of a worker fails exactly where what the journal says of it is lawful.
-use Rattle.std.proofs.Common.{◌≡◌, ◌<◌, ◌≤◌, ℕ, zero, suc, ◌+◌, ◌==◌, ◌||◌, List, [], ◌∷◌, ◌++◌, length, map, get_or, Bool, true, false, not, nat_lt, nat_le, refl, sym, ap, ◌∙◌, subst, arith}
+use Rattle.std.proofs.Common.{◌≡◌, ◌<◌, ◌≤◌, ℕ, ◌==◌, ◌||◌, List, [], ◌∷◌, length, get_or, Bool, true, false, not, refl, sym, ap, ◌∙◌, subst, arith}
 use Rattle.std.specs.Prelude.{All}
-use Rattle.std.specs.List.{list_any, flat_map, range_with_len}
 use Rattle.std.specs.List.Sorted.{IsStrictlyIncreasing}
 use Rattle.std.proofs.lemmas.Bool.{eqb-true, eq-eqb, leb-true, le-leb, ltb-true, lt-ltb}
 use Rattle.std.proofs.lemmas.List.{nil_from_length}
-use Rattle.std.proofs.lemmas.List.Elements.{All-nil, All-cons, All-head, All-tail, All-weaker}
+use Rattle.std.proofs.lemmas.List.Elements.{All-nil, All-cons, All-head, All-tail}
 use Rattle.std.proofs.lemmas.List.FromFn.{get_or-map-range_with_len, length-map-range_with_len, fill_by_all}
 use Rattle.hash_rows.specs.declared.options.Full.{Full}
 use Rattle.hash_rows.specs.declared.options.Full.TheVariants.{Leave, Wait}
@@ -14,14 +13,13 @@ use Rattle.hash_rows.specs.declared.shape.Packet.{Packet}
 use Rattle.hash_rows.specs.declared.shape.Push.{Push}
 use Rattle.hash_rows.specs.declared.shape.Update.{Update}
 use Rattle.push_history.specs.Journal.{Journal, rules_in, updates_by_options}
-use Rattle.push_history.specs.LawfulJournal.{sent_by, LawfulWorker, LawfulWorkers}
+use Rattle.push_history.specs.LawfulJournal.{sent_by, LawfulWorkers}
 use Rattle.push_history.specs.Pushes.{distance_at, is_refused, LawfulPushes}
 use Rattle.push_history.specs.Told.{messages_before}
 use Rattle.given_law.specs.Given.{given_messages, MayRefuse}
 use Rattle.given_law.proofs.Determined.{given_lawful, lawful_given}
 use Rattle.audit_law.specs.Forms.{HasForm}
-use Rattle.audit_law.specs.Tests.{Test, first_failing}
-use Rattle.audit_law.specs.LineNumbers.{worker_line, refused_line}
+use Rattle.audit_law.specs.LineNumbers.{refused_line}
 use Rattle.audit_law.specs.WorkerTests.{refused_by, given_by, all_given, is_wait, refused_tests, all_refused_tests, worker_tests, all_worker_tests}
 use Rattle.audit_law.proofs.Holding.{Hold, hold_head, hold_tail, hold_cons, hold_nil, hold_each, hold_range, hold_all, hold_list, unless}
 

@@ -1,8 +1,7 @@
 -- The tests of an answer.
-use Rattle.std.specs.Prelude.{ℕ, ℤ, pos, zero, suc, ◌+◌, ◌-◌, ◌==◌, ◌||◌, ◌∷◌, ◌++◌, List, [], Bool, if◌then◌else◌, length, map, sum, nat_le, slice_index_or}
+use Rattle.std.specs.Prelude.{ℕ, ℤ, pos, suc, ◌-◌, ◌==◌, ◌||◌, ◌∷◌, ◌++◌, List, [], Bool, if◌then◌else◌, length, map, sum, nat_le, slice_index_or}
 use Rattle.std.specs.List.{list_all, range_with_len}
 use Rattle.std.specs.Ordering.{int_eq}
-use Rattle.packet_key.specs.declared.key.FlowKey.{FlowKey}
 use Rattle.hash_rows.specs.declared.options.Options.{Options}
 use Rattle.hash_rows.specs.declared.shape.Push.{Push}
 use Rattle.push_history.specs.Answers.{AnswerParts}

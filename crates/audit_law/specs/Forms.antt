@@ -1,5 +1,5 @@
 -- What the form of a journal's text says of the journal.
-use Rattle.std.specs.Prelude.{◌≡◌, ◌<◌, ℕ, List, [], All, length, slice_index_or}
+use Rattle.std.specs.Prelude.{◌≡◌, ◌<◌, ℕ, [], All, length, slice_index_or}
 use Rattle.std.specs.List.Sorted.{IsStrictlyIncreasing}
 use Rattle.hash_rows.specs.declared.options.Options.{Options}
 use Rattle.push_history.specs.Answers.{AnswerParts}

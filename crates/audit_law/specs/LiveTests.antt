@@ -1,10 +1,10 @@
 -- The tests of the live keys, and of how many were missed.
-use Rattle.std.specs.Prelude.{ℕ, ℤ, ◌+◌, ◌==◌, ◌&&◌, ◌||◌, ◌∷◌, ◌++◌, List, [], Bool, true, false, not, if◌then◌else◌, length, map, filter, int_le, nat_lt, nat_le, count_by, slice_index_or}
+use Rattle.std.specs.Prelude.{ℕ, ◌+◌, ◌==◌, ◌&&◌, ◌||◌, ◌∷◌, ◌++◌, List, [], Bool, true, false, not, if◌then◌else◌, length, map, int_le, nat_lt, nat_le, count_by, slice_index_or}
 use Rattle.std.specs.List.{range_with_len}
 use Rattle.packet_key.specs.declared.key.FlowKey.{FlowKey}
 use Rattle.hash_rows.specs.declared.options.Options.{Options}
 use Rattle.hash_rows.specs.declared.options.Sketch.{Sketch}
-use Rattle.hash_rows.specs.declared.options.Sketch.TheVariants.{CountMin, CountSketch, LogLog}
+use Rattle.hash_rows.specs.declared.options.Sketch.TheVariants.{CountMin, LogLog}
 use Rattle.hash_rows.specs.declared.shape.Push.{Push}
 use Rattle.hash_rows.specs.Keys.{same_key}
 use Rattle.push_history.specs.Journal.{Journal, rules_in}

@@ -8,7 +8,6 @@ use Rattle.hash_rows.specs.declared.shape.Packet.{Packet}
 use Rattle.hash_rows.specs.declared.shape.Push.{Push}
 use Rattle.hash_rows.specs.declared.shape.Update.{Update}
 use Rattle.push_history.specs.Journal.{Journal, rules_in, updates_by_options}
-use Rattle.push_history.specs.LawfulJournal.{sent_by}
 use Rattle.push_history.specs.Pushes.{distance_at}
 use Rattle.push_history.specs.Told.{messages_before}
 use Rattle.given_law.specs.Given.{given_messages}

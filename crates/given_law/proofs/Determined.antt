@@ -1,5 +1,5 @@
 -- Lawful messages are those that the refused updates determine.
-use Rattle.std.proofs.Common.{◌≡◌, ◌≢◌, ◌<◌, ◌≤◌, ℕ, zero, suc, ◌+◌, ◌-◌, ◌==◌, ◌||◌, ℤ, pos, List, [], ◌∷◌, ◌++◌, length, get_or, map, Bool, true, false, nat_lt, if◌then◌else◌, not, refl, sym, ap, ap₂, ◌∙◌, subst, arith, ◌⊎◌, inl, inr, add-one}
+use Rattle.std.proofs.Common.{◌≡◌, ◌<◌, ◌≤◌, ℕ, zero, suc, ◌+◌, ◌==◌, ◌||◌, ℤ, List, [], ◌∷◌, ◌++◌, length, map, Bool, true, false, nat_lt, if◌then◌else◌, not, refl, sym, ap, ap₂, ◌∙◌, subst, arith, ◌⊎◌, inl, inr, add-one}
 use Rattle.std.specs.Prelude.{All, filter}
 use Rattle.std.specs.List.Sorted.{IsStrictlyIncreasing}
 use Rattle.std.proofs.lemmas.Bool.{cases_lt, eq-eqb}
@@ -9,16 +9,14 @@ use Rattle.std.proofs.lemmas.List.Elements.{All-push, All-filter, All-map, All-h
 use Rattle.packet_key.specs.declared.key.FlowKey.{FlowKey}
 use Rattle.std.proofs.Math.Nat.{eq-or-lt_of_le}
 use Rattle.hash_rows.specs.declared.options.Full.{Full}
-use Rattle.hash_rows.specs.declared.options.Full.TheVariants.{Wait}
 use Rattle.hash_rows.specs.declared.shape.Update.{Update}
 use Rattle.hash_rows.specs.declared.shape.Push.{Push}
 use Rattle.hash_rows.specs.Rules.{Rules}
-use Rattle.push_history.specs.Share.{zero_key}
 use Rattle.push_history.specs.LagRun.{message_of}
 use Rattle.push_history.specs.Updates.{update_at}
 use Rattle.push_history.specs.Whole.{whole, whole_of}
 use Rattle.push_history.specs.Told.{told, told_of, messages_before}
-use Rattle.push_history.specs.Pushes.{is_sent, is_refused, distance_at, TellsAll, ArePushes, IsNamed, LawfulPushes}
+use Rattle.push_history.specs.Pushes.{is_sent, is_refused, distance_at, TellsAll, IsNamed, LawfulPushes}
 use Rattle.push_history.proofs.Lists.{filter_kept, increasing_push}
 use Rattle.push_history.proofs.Growing.{numbers_within, not_sent, not_refused, before_later, update_before, update_last, whole_before, whole_all, told_all, distance_last}
 use Rattle.push_history.proofs.Telling.{before_quiet, before_sent}

@@ -1,7 +1,7 @@
 ghost use Rattle.std.specs.Prelude.{◌≡◌, ◌<◌, ◌≤◌, length, IfOk, slice_index_or};
 ghost use Rattle.hash_rows.specs.Rules.{AreValues};
 ghost use Rattle.hash_rows.specs.Shapes.{IsShape, size_of};
-ghost use Rattle.live_state.specs.Fold.{absorbed, fits, fresh_state, layout_of};
+ghost use Rattle.live_state.specs.Fold.{absorbed, fits, fresh_state, layout_of, zero_cells};
 ghost use Rattle.live_state.specs.Tallies.{table_noted};
 
 use crate::copies::fill_table;
@@ -41,10 +41,24 @@ impl<K: Kind> State<K> {
         requires heavy { (1 ≤ heavy) × (heavy ≤ 1024) }
         ensures { IfOk result (λ state. state ≡ fresh_state (record { shape = shape; workers = workers; heavy = heavy; least = least })) }
     {
-        Ok(State {
-            table: Table::new(alloc, shape)?,
-            tally: Tally::new(alloc, workers, heavy, least)?,
-        })
+        let table = Table::new(alloc, shape)?;
+        State::over(alloc, table, workers, heavy, least)
+    }
+
+    /// The state with no message, over a table of zeros.
+    pub fn over(
+        alloc: Global,
+        table: Table<K>,
+        workers: u32,
+        heavy: u32,
+        least: i64,
+    ) -> Result<State<K>, NoMemory>
+        requires zeros { table.cells ≡ zero_cells table.shape }
+        requires heavy { (1 ≤ heavy) × (heavy ≤ 1024) }
+        ensures { IfOk result (λ state. state ≡ fresh_state (record { shape = table.shape; workers = workers; heavy = heavy; least = least })) }
+    {
+        let tally = Tally::new(alloc, workers, heavy, least)?;
+        Ok(State { table, tally })
     }
 
     /// Folds the message. One whose worker or cell is out of range, or whose amount isn't a value

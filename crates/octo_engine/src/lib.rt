@@ -8,4 +8,5 @@ mod settle;
 mod setup;
 mod worker;
 
+pub use looks::asked_keys;
 pub use run::{Settled, run_rounds};

@@ -2,7 +2,7 @@
 use Rattle.std.proofs.Common.{◌≡◌, refl, ap, ◌⊎◌, inl, inr}
 use Rattle.std.specs.Prelude.{Result, Err}
 use Rattle.flow_base.specs.declared.status.Status.{Status}
-use Rattle.flow_base.specs.declared.status.Status.TheVariants.{Done, ReadFault, WriteFault, BadCapture, TooMany}
+use Rattle.flow_base.specs.declared.status.Status.TheVariants.{Done, Usage, ReadFault, WriteFault, BadCapture, TooMany, Differs}
 use Rattle.pcap_read.specs.declared.bad.Bad.{Bad}
 use Rattle.pcap_read.specs.declared.bad.Bad.TheVariants.{ShortHeader, UnknownMagic, PcapNg, BadVersion, NotEthernet, TooLong}
 use Rattle.pcap_read.specs.declared.bad.Bad.TheVariants.{TooMany as TooManyRecords}
@@ -43,6 +43,20 @@ never_done SourceFault is = cc
 never_done SinkFault is = cc
 never_done (BadFault bad) is = no_bad bad Done is (λ e. cc) (λ e. cc)
 never_done MemoryFault is = cc
+
+pub usage_fault : (f : Fault) → status_of f ≡ Usage → f ≡ UsageFault
+usage_fault UsageFault is = refl
+usage_fault SourceFault is = absurd (cc)
+usage_fault SinkFault is = absurd (cc)
+usage_fault (BadFault bad) is = no_bad bad Usage is (λ e. cc) (λ e. cc)
+usage_fault MemoryFault is = absurd (cc)
+
+pub never_differs : (f : Fault) → status_of f ≡ Differs → ⊥
+never_differs UsageFault is = cc
+never_differs SourceFault is = cc
+never_differs SinkFault is = cc
+never_differs (BadFault bad) is = no_bad bad Differs is (λ e. cc) (λ e. cc)
+never_differs MemoryFault is = cc
 
 pub bad_fault : (f : Fault) → (status_of f ≡ BadCapture) ⊎ (status_of f ≡ TooMany) → (bad : Bad) × (f ≡ BadFault bad)
 bad_fault UsageFault (inl is) = absurd (cc)

@@ -1,3 +1,4 @@
 pub mod Faults
 pub mod Results
 pub mod Runs
+pub mod Ends

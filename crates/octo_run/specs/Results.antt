@@ -3,7 +3,7 @@ use Rattle.std.specs.Prelude.{ℕ, Bool, true, false, List, [], ◌++◌}
 use Rattle.hash_rows.specs.declared.options.Options.{Options}
 use Rattle.capture_load.specs.declared.capture.Capture.{Capture}
 use Rattle.push_history.specs.Journal.{Journal, journal_in}
-use Rattle.push_history.specs.Rounds.{IsRoundsJournal}
+use Rattle.push_history.specs.LawfulJournal.{LawfulJournal}
 use Rattle.octo_text.specs.Content.{AreComplete}
 use Rattle.octo_text.specs.JournalText.{journal_text}
 use Rattle.octo_text.specs.ReportText.{report_text}
@@ -14,10 +14,10 @@ use Rattle.octo_run.specs.declared.results.Results.{Results}
 abbrev pub journal_of : Options → Results → Journal
 journal_of o r = journal_in o r.refused.items r.pushes.items r.answers.items r.live.items r.missed
 
--- the report is that of the capture by the options, and the journal that of the rounds of its packets
+-- the report is that of the capture by the options, and the journal is lawful for its packets
 pub record HasResults (capture : Capture) (o : Options) (r : Results) : Type 0 where
   pub report_is : IsReport capture.packets.items capture.records capture.skipped capture.cut o r.report
-  pub journal_is : IsRoundsJournal capture.packets.items o (journal_of o r)
+  pub journal_is : LawfulJournal capture.packets.items o (journal_of o r)
 
 -- the journal tells of each worker and each answer as the options ask
 abbrev pub IsComplete : Options → Results → Type 0

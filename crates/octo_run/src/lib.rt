@@ -3,12 +3,18 @@
 #![tactic(auto)]
 
 mod faults;
+mod frame;
+mod laws;
 mod lines;
 mod results;
+mod rounds;
 mod run;
+mod task;
 
 pub use capture_load::{Capture, GenSource, LoadStop, load_capture};
 pub use faults::Fault;
+pub use laws::{one_report, one_text};
 pub use lines::tell;
-pub use run::{octo, octo_rounds};
+pub use rounds::octo_rounds;
+pub use run::octo;
 pub use words::{Command, WordStop, read_words};

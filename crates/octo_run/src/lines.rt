@@ -24,7 +24,7 @@ pub fn tell<E: Sink>(err: &mut E, fault: Fault) -> Status
 fn put_fault(line: &mut Line, fault: Fault)
     requires { length line.old ≤ 0 }
     ensures text { line.new ≡ line.old ++ fault_text fault }
-    ensures room { length line.new ≤ 200 }
+    ensures room { length line.new ≤ 300 }
 {
     match fault {
         Fault::Usage => line.text(b"octo: usage"),
@@ -39,7 +39,7 @@ fn put_fault(line: &mut Line, fault: Fault)
 fn put_bad(line: &mut Line, bad: Bad)
     requires { length line.old ≤ 0 }
     ensures text { line.new ≡ line.old ++ bad_text bad }
-    ensures room { length line.new ≤ 200 }
+    ensures room { length line.new ≤ 300 }
 {
     match bad {
         Bad::ShortHeader { len } => line.named(b"octo: bad capture 1 length ", u64::from(len)),

@@ -2,6 +2,11 @@ ghost use Rattle.std.specs.Prelude.{◌≡◌, ◌≤◌, length, IfOk};
 ghost use Rattle.flow_base.specs.Causes.{HasCause};
 ghost use Rattle.flow_base.specs.Writing.{Writes};
 ghost use Rattle.hash_rows.specs.Lawful.{IsLawful};
+ghost use Rattle.hash_rows.specs.declared.options.Mode.{Mode};
+ghost use Rattle.hash_rows.specs.Sequential.{sequential_table};
+ghost use Rattle.push_history.specs.Journal.{journal_in};
+ghost use Rattle.push_history.specs.LawfulJournal.{LawfulJournal};
+ghost use Rattle.round_law.specs.Outcome.{IsWhole};
 ghost use Rattle.octo_run.specs.Results.{HasResults, IsComplete, results_text};
 
 use capture_load::Capture;
@@ -10,7 +15,7 @@ use count_sketch::CountSketch;
 use flow_base::{Failed, NoMemory, Sink};
 use hash_rows::{Answers, BitRows, Counts, Keys, Kind, Options, Sketch};
 use loglog_regs::LogLog;
-use octo_engine::run_rounds;
+use octo_engine::{Settled, run_rounds};
 use octo_text::{Report, write_journal_in, write_report};
 use reports::report_of;
 use std::alloc::Global;
@@ -28,41 +33,62 @@ pub struct Results {
 }
 
 /// Counts the packets of a capture in rounds.
-pub fn results_of<R: Threads + Sync>(
+pub fn results_in_rounds<R: Threads + Sync>(
     rt: &R,
     alloc: Global,
     capture: &Capture,
     options: &Options,
 ) -> Result<Results, NoMemory>
-    requires options { IsLawful options.now }
+    requires lawful { IsLawful options.now }
+    requires rounds { options.now.mode ≡ Mode.Rounds }
     requires packets { length capture.now.packets.items ≤ 16777216 }
     ensures results { IfOk result (HasResults capture.now options.now) }
     ensures complete { IfOk result (IsComplete options.now) }
 {
     match options.sketch {
-        Sketch::CountMin => results_by::<CountMin, R>(rt, alloc, capture, options),
-        Sketch::CountSketch => results_by::<CountSketch, R>(rt, alloc, capture, options),
-        Sketch::LogLog => results_by::<LogLog, R>(rt, alloc, capture, options),
+        Sketch::CountMin => rounds_by::<CountMin, R>(rt, alloc, capture, options),
+        Sketch::CountSketch => rounds_by::<CountSketch, R>(rt, alloc, capture, options),
+        Sketch::LogLog => rounds_by::<LogLog, R>(rt, alloc, capture, options),
     }
 }
 
-fn results_by<K: Kind, R: Threads + Sync>(
+fn rounds_by<K: Kind, R: Threads + Sync>(
     rt: &R,
     alloc: Global,
     capture: &Capture,
     options: &Options,
 ) -> Result<Results, NoMemory>
-    requires options { IsLawful options.now }
+    requires lawful { IsLawful options.now }
     requires sketch { options.now.sketch ≡ K.sketch }
+    requires rounds { options.now.mode ≡ Mode.Rounds }
     requires packets { length capture.now.packets.items ≤ 16777216 }
     ensures results { IfOk result (HasResults capture.now options.now) }
     ensures complete { IfOk result (IsComplete options.now) }
 {
-    let packets = capture.packets.as_slice();
-    let settled = run_rounds::<K, R>(rt, alloc, packets, options)?;
+    let settled = run_rounds::<K, R>(rt, alloc, capture.packets.as_slice(), options)?;
+    results_from(alloc, capture, options, settled)
+}
+
+// The report of what was settled, and its lists.
+fn results_from<K: Kind>(
+    alloc: Global,
+    capture: &Capture,
+    options: &Options,
+    settled: Settled<K>,
+) -> Result<Results, NoMemory>
+    requires lawful { IsLawful options.now }
+    requires sketch { options.now.sketch ≡ K.sketch }
+    requires packets { length capture.now.packets.items ≤ 16777216 }
+    requires table { settled.table ≡ sequential_table K.rules options.now.shape capture.now.packets.items }
+    requires journal { LawfulJournal capture.now.packets.items options.now
+        (journal_in options.now settled.refused.items settled.pushes.items settled.answers.items settled.live.items settled.missed) }
+    requires whole { IsWhole options.now settled.refused.items settled.pushes.items settled.answers.items }
+    ensures results { IfOk result (HasResults capture.now options.now) }
+    ensures complete { IfOk result (IsComplete options.now) }
+{
     let report = report_of(
         alloc,
-        packets,
+        capture.packets.as_slice(),
         capture.records,
         capture.skipped,
         capture.cut,

@@ -1,6 +1,10 @@
 //! Worked runs of octo, from words and bytes to what stands on its outputs.
 #![tactic(auto)]
 
+mod headline;
+
+pub use headline::whole_run;
+
 #[cfg(test)]
 mod bytes;
 #[cfg(test)]
@@ -8,12 +12,12 @@ mod captures;
 #[cfg(test)]
 mod faults;
 #[cfg(test)]
-mod journals;
-#[cfg(test)]
 mod refusals;
 #[cfg(test)]
-mod reports;
-#[cfg(test)]
 mod runs;
+#[cfg(test)]
+mod worked_journals;
+#[cfg(test)]
+mod worked_reports;
 #[cfg(test)]
 mod workers;

@@ -32,11 +32,12 @@ fn put_estimates(line: &mut Line, estimates: &[i64])
     }
 }
 
+/// The line of an answer, without its line feed.
 #[tactic(auto, unfolding(crate::specs::JournalText::answer_line, push_history::specs::Answers::parts_of))]
-fn write_answer<T: Sink>(out: &mut T, answer: &Answer) -> Result<(), Failed>
+pub fn answer_line(answer: &Answer) -> Line
     requires { FitsLine answer.now }
-    ensures writes { Writes (T.holds out.old) (T.holds out.new) (answer_line (parts_of answer.now)) result }
-    ensures cause { HasCause (T.faults out.old) (T.faults out.new) result }
+    ensures text { result ++ codes "\n" ≡ answer_line (parts_of answer.now) }
+    ensures room { length result + 1 ≤ 1024 }
 {
     let mut line = Line::new();
     line.named(b"answer ", u64::from(answer.reader));
@@ -46,6 +47,15 @@ fn write_answer<T: Sink>(out: &mut T, answer: &Answer) -> Result<(), Failed>
     put_numbers(&mut line, answer.front.as_slice());
     line.text(b" shown");
     put_estimates(&mut line, answer.shown.as_slice());
+    line
+}
+
+fn write_answer<T: Sink>(out: &mut T, answer: &Answer) -> Result<(), Failed>
+    requires { FitsLine answer.now }
+    ensures writes { Writes (T.holds out.old) (T.holds out.new) (answer_line (parts_of answer.now)) result }
+    ensures cause { HasCause (T.faults out.old) (T.faults out.new) result }
+{
+    let mut line = answer_line(answer);
     line.send(out)
 }
 

@@ -75,10 +75,11 @@ fn put_queries(line: &mut Line, options: &Options)
     line.signed(options.least);
 }
 
+/// The line of the options, without its line feed.
 #[tactic(auto, unfolding(crate::specs::JournalText::options_line))]
-fn write_options<T: Sink>(out: &mut T, options: &Options) -> Result<(), Failed>
-    ensures writes { Writes (T.holds out.old) (T.holds out.new) (options_line options.now) result }
-    ensures cause { HasCause (T.faults out.old) (T.faults out.new) result }
+pub fn options_line(options: &Options) -> Line
+    ensures text { result ++ codes "\n" ≡ options_line options.now }
+    ensures room { length result + 1 ≤ 1024 }
 {
     let mut line = Line::new();
     line.text(b"options ");
@@ -86,6 +87,14 @@ fn write_options<T: Sink>(out: &mut T, options: &Options) -> Result<(), Failed>
     put_share(&mut line, options);
     put_lanes(&mut line, options);
     put_queries(&mut line, options);
+    line
+}
+
+fn write_options<T: Sink>(out: &mut T, options: &Options) -> Result<(), Failed>
+    ensures writes { Writes (T.holds out.old) (T.holds out.new) (options_line options.now) result }
+    ensures cause { HasCause (T.faults out.old) (T.faults out.new) result }
+{
+    let mut line = options_line(options);
     line.send(out)
 }
 

@@ -11,7 +11,8 @@ mod report;
 mod runs;
 mod workers;
 
-pub use journal::{Journal, write_journal, write_journal_in};
+pub use answers::answer_line;
+pub use journal::{Journal, options_line, write_journal, write_journal_in};
 pub use laws::maximal_runs;
 pub use line::Line;
 pub use report::{Report, write_report};

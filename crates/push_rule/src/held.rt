@@ -67,6 +67,7 @@ impl<K: Kind> HeldCells<K> {
     }
 
     /// What is held of the cell.
+    #[inline(always)]
     pub fn get(&self, cell: u32) -> K::Held
         requires { cell < length self.now.held }
         ensures value { slice_get self.now.held cell ≡ Some result }
@@ -83,6 +84,7 @@ impl<K: Kind> HeldCells<K> {
     }
 
     /// Puts the held value at the cell.
+    #[inline(always)]
     pub fn set(&mut self, cell: u32, held: K::Held)
         requires idle { self.old.due ≡ None }
         requires cell { cell < length self.old.held }
@@ -97,6 +99,7 @@ impl<K: Kind> HeldCells<K> {
     }
 
     /// Puts the held value at the cell, which is due from now on.
+    #[inline(always)]
     pub fn owe(&mut self, cell: u32, held: K::Held)
         requires idle { self.old.due ≡ None }
         requires cell { cell < length self.old.held }
@@ -111,6 +114,7 @@ impl<K: Kind> HeldCells<K> {
     }
 
     /// The cell that is due.
+    #[inline(always)]
     pub fn due(&self) -> Option<Due<K::Held>>
         ensures cell { MatchOption result (self.now.due ≡ None) (λ due. self.now.due ≡ Some due.cell) }
         ensures held { MatchOption result (Unit {0}) (λ due. slice_get self.now.held due.cell ≡ Some due.held) }
@@ -120,6 +124,7 @@ impl<K: Kind> HeldCells<K> {
     }
 
     /// Puts the held value at the cell that is due, which isn't any longer.
+    #[inline(always)]
     pub fn close(&mut self, held: K::Held)
         requires due { IsSome self.old.due }
         requires stands { (told : ℤ) × (whole : ℤ) × K.stands held told whole }
@@ -200,6 +205,7 @@ fn count_wide(bytes: &[i8]) -> usize
 }
 
 // The byte of a held value with this small form.
+#[inline(always)]
 fn byte(small: Option<i8>) -> i8
     ensures { result ≡ byte_of small }
 {
@@ -210,6 +216,7 @@ fn byte(small: Option<i8>) -> i8
 }
 
 // The entry of the cell.
+#[inline(always)]
 fn find<H: Copy + Drop>(due: &Option<Due<H>>, side: &Side<H>, cell: u32) -> Option<H>
     requires { length side.now.places.items ≡ 16384 }
     ensures { result ≡ lookup (nat_eq cell) (with_due due.now side.now.entries.entries) }
@@ -223,6 +230,7 @@ fn find<H: Copy + Drop>(due: &Option<Due<H>>, side: &Side<H>, cell: u32) -> Opti
 }
 
 // Keeps the held value of the cell, in one byte where it has a small form.
+#[inline(always)]
 fn keep<H: Copy + Drop>(
     bytes: &mut Listed<i8>,
     side: &mut Side<H>,

@@ -1,4 +1,4 @@
-ghost use Rattle.std.specs.Prelude.{◌≡◌, ◌<◌, ◌≤◌, ◌+◌, ◌-◌, ℕ, ℤ, [], ◌∷◌, ◌++◌, List, length, true, false, nat_le, nat_lt, Some, None, IsSome, IfOk, MatchOption, option_map, slice_index_or, slice_set, count_by, is_none, map};
+ghost use Rattle.std.specs.Prelude.{◌≡◌, ◌<◌, ◌≤◌, ◌+◌, ◌-◌, ℕ, ℤ, [], ◌∷◌, ◌++◌, List, length, true, false, nat_le, nat_lt, Some, None, IsSome, IfOk, MatchOption, option_map, slice_index_or, slice_set, replicate, count_by, is_none, map};
 ghost use Rattle.packet_key.specs.declared.key.FlowKey.{FlowKey};
 ghost use Rattle.hash_rows.specs.declared.shape.Push.{Push};
 ghost use Rattle.hash_rows.specs.declared.shape.Update.{Update};
@@ -180,6 +180,21 @@ impl<K: Kind> Private<K> {
         let residue = self.residue(cell);
         self.cells.forget(cell);
         residue
+    }
+
+    /// Begins again, for as many updates, where nothing is held of any cell.
+    pub fn restart(&mut self)
+        requires idle { self.old.due ≡ None }
+        requires fresh { self.old.held ≡ replicate (length self.old.held) K.fresh_held }
+        ensures fresh { StandsFor K.stands K.rules self.new [] [] [] }
+        ensures idle { self.new.due ≡ None }
+        ensures cells { length self.new.held ≡ length self.old.held }
+        ensures threshold { self.new.threshold ≡ self.old.threshold }
+        ensures room { self.new.room ≡ self.old.room }
+    {
+        self.cells.restart();
+        self.counted = 0;
+        self.bits.clear();
     }
 
     /// How far what was told of the cell is from the whole.

@@ -1,2 +1,4 @@
 mod Adding
 mod OfAll
+mod OneOrder
+pub mod OneReport

@@ -56,3 +56,13 @@ unfoldable pub IsReport : List Packet → ℕ → Tallies → ℕ → Options �
 IsReport packets records skipped cut options report =
     let rules = rules_of options.sketch in
     Reports rules (sequential_table rules options.shape packets) packets records skipped cut options report
+
+-- the options ask for the same report: they differ at most in how the packets are counted (workers, share, threshold, lane, batch, round,
+-- full, mode), in who asks meanwhile (readers, asks), and in the journal
+pub record AskForOneReport (o p : Options) : Type 0 where
+  pub sketch : o.sketch ≡ p.sketch
+  pub shape : o.shape ≡ p.shape
+  pub amount : o.amount ≡ p.amount
+  pub watch : o.watch.items ≡ p.watch.items
+  pub heavy : o.heavy ≡ p.heavy
+  pub least : o.least ≡ p.least

@@ -28,7 +28,7 @@ pub fn report_of<K: Kind>(
 {
     let findings = findings_of(alloc, packets, options, table)?;
     Ok(Report {
-        sketch: options.sketch,
+        sketch: K::which_sketch(),
         shape: options.shape,
         amount: options.amount,
         records,

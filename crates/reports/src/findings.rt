@@ -67,9 +67,9 @@ pub fn findings_of<K: Kind>(
     options: &Options,
     table: &Table<K>,
 ) -> Result<Findings, NoMemory>
-    ensures { IfOk result (λ f. Finds options.now.sketch (K.rules.estimate table.now.shape table.now.cells) options.now packets.now f.distinct f.heavy f.flows.items) }
+    ensures { IfOk result (λ f. Finds K.sketch (K.rules.estimate table.now.shape table.now.cells) options.now packets.now f.distinct f.heavy f.flows.items) }
 {
-    match options.sketch {
+    match K::which_sketch() {
         Sketch::LogLog => distinct_keys(alloc, table),
         Sketch::CountMin | Sketch::CountSketch => heavy_flows(alloc, packets, options, table),
     }

@@ -3,8 +3,10 @@
 
 mod build;
 mod findings;
+mod laws;
 mod one_table;
 mod totals;
 
 pub use build::report_of;
+pub use laws::one_report;
 pub use one_table::sequential;

@@ -21,7 +21,7 @@ use Rattle.fold_law.specs.Folds.{IsFoldOf}
 use Rattle.live_state.specs.Fold.{Fit, fits}
 use Rattle.live_state.specs.declared.layout.Layout.{Layout}
 use Rattle.push_history.proofs.Fitting.{Fits, FitsFor, own_updates_fit, rules_lawful, small_values, updates_there}
-use Rattle.thread_law.specs.Ran.{AreLawful}
+use Rattle.thread_law.specs.Ran.{AreLawful, refused_by}
 
 -- each lawful message of a worker names it, and is for a cell of the table and a value of the kind
 sent_fits : (r : Rules) → AreLaws r → (size w T L : ℕ) (full : Full) (U : List Update) (S : List Push) (F : List ℕ) → All (Fits r size) U → LawfulPushes r w T L full U S F
@@ -63,17 +63,22 @@ pub own_values : (packets : List Packet) (o : Options) → IsLawful o → All (�
 own_values packets o lawful small w lt = λ k d inside. (own_updates packets o lawful small w lt k d inside).1
 
 -- each message names its worker and fits a state of the options' shape and workers
-pub messages_fit : (packets : List Packet) (o : Options) (l : Layout) (messages : List (List Push)) (bits : List (List Bool)) → IsLawful o → All (λ p. p.amount < 2 ^ 32) packets
-    → length messages ≡ o.workers → AreLawful packets o messages bits → l.shape ≡ o.shape → l.workers ≡ o.workers
+pub all_fit : (packets : List Packet) (o : Options) (l : Layout) (messages : List (List Push)) (refused : ℕ → List ℕ) → IsLawful o → All (λ p. p.amount < 2 ^ 32) packets → length messages ≡ o.workers
+    → ((w : ℕ) → w < o.workers → LawfulPushes (rules_in o) w o.threshold o.lane o.full (updates_by_options packets o w) (sent_by messages w) (refused w)) → l.shape ≡ o.shape → l.workers ≡ o.workers
     → (w : ℕ) → All (λ m. (m.worker ≡ w) × (fits (rules_in o) l m ≡ true)) (sent_by messages w)
-messages_fit packets o l messages bits lawful small same each shape workers w = elim (cases_lt w o.workers) [
+all_fit packets o l messages refused lawful small same each shape workers w = elim (cases_lt w o.workers) [
   | inl lt ↦ (λ k d below.
-      let f = sent_fits (rules_in o) (rules_lawful o.sketch) (size_of o.shape) w o.threshold o.lane o.full _ (sent_by messages w) _ (own_updates packets o lawful small w lt) (each w lt) k d below in
+      let f = sent_fits (rules_in o) (rules_lawful o.sketch) (size_of o.shape) w o.threshold o.lane o.full _ (sent_by messages w) (refused w) (own_updates packets o lawful small w lt) (each w lt) k d below in
       (f.0, fits_by (rules_in o) l (get_or (sent_by messages w) k d) (omega (arith, f.0, lt, workers)) (omega (arith, f.1, ap size_of shape)) f.2))
   | inr past ↦ (λ k d below. absurd (
       let none : sent_by messages w ≡ [] = get_or_past messages w [] (omega (arith, past, same)) in
       omega (arith, ap (λ (l : List Push). length l) none, below)))
 ]
+
+pub messages_fit : (packets : List Packet) (o : Options) (l : Layout) (messages : List (List Push)) (bits : List (List Bool)) → IsLawful o → All (λ p. p.amount < 2 ^ 32) packets
+    → length messages ≡ o.workers → AreLawful packets o messages bits → l.shape ≡ o.shape → l.workers ≡ o.workers
+    → (w : ℕ) → All (λ m. (m.worker ≡ w) × (fits (rules_in o) l m ≡ true)) (sent_by messages w)
+messages_fit packets o l messages bits = all_fit packets o l messages (refused_by bits)
 
 -- a list of messages that fit, which has those of each worker in order, is a fold of them
 pub fold_of : (r : Rules) (l : Layout) (messages : List (List Push)) (folded : List Push) → l.workers ≡ length messages → Fit r l folded → ((w : ℕ) → messages_of w folded ≡ sent_by messages w)

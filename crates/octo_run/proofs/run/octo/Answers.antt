@@ -1,51 +1,49 @@
-use Rattle.std.proofs.Common.{◌∙◌, sym, subst}
-use Rattle.words.specs.Options.{options_in}
+use Rattle.std.proofs.Common.{rules, ◌≡◌, ◌∙◌, sym, subst}
 use Rattle.words.specs.declared.command.Command.{Command}
+use Rattle.words.specs.declared.command.Command.TheVariants.{Load}
 use Rattle.capture_load.specs.Loads.{HoldsRefusal}
-use Rattle.octo_run.specs.Runs.{GivenFor, Reported, CutShort, IsAccepted}
-use Rattle.octo_run.proofs.Commands.{load_given}
+use Rattle.octo_run.specs.Ends.{CutShort, IsAccepted, IsUnrefused, Reported}
+use Rattle.octo_run.specs.Runs.{GivenFor, HasText, Leaves, Spares}
+use Rattle.octo_run.proofs.Commands.{ready}
 use Rattle.octo_run.proofs.run.octo.Goals as goal
 
-pub returns-in-Ok-Run-clause-bad : goal.returns-in-Ok-Run-clause-bad
-returns-in-Ok-Run-clause-bad g c = λ either command gives.
-    let same = sym c.in-Ok-Run.field-0-is ∙ c.in-Ok-Run.ensures.once command gives in
-    let bad = c.octo_rounds.ensures.bad either in
-    (bad.0, bad.1, subst (λ (k : Command). GivenFor k (g.S.Source.left c.args.source.now) (g.S.Source.left c.octo_rounds.new.source) (λ given rest. HoldsRefusal given rest bad.0)) same bad.2, bad.3)
+pub carry_out-requires : goal.carry_out-requires
+carry_out-requires g c = (search rules, ready c.in-Ok.command _ c.in-Ok.ensures.ok c.in-Ok.ensures.lawful c.in-Ok.ensures.rounds)
 
-pub returns-in-Ok-Run-clause-accepted : goal.returns-in-Ok-Run-clause-accepted
-returns-in-Ok-Run-clause-accepted g c = λ either command gives.
-    let same = sym c.in-Ok-Run.field-0-is ∙ c.in-Ok-Run.ensures.once command gives in
-    subst (λ (k : Command). GivenFor k (g.S.Source.left c.args.source.now) (g.S.Source.left c.octo_rounds.new.source) IsAccepted) same (c.octo_rounds.ensures.accepted either)
+pub returns-in-Ok-clause-done : goal.returns-in-Ok-clause-done
+returns-in-Ok-clause-done g c = λ is command gives.
+    subst (λ (k : Command). GivenFor k (g.S.Source.left c.args.source.now) (g.S.Source.left c.carry_out.new.source) (Reported (HasText k) (g.T.Sink.holds c.args.out.now) (g.T.Sink.holds c.carry_out.new.out)))
+    (c.in-Ok.ensures.once command gives) (c.carry_out.ensures.ended.done is)
 
-pub returns-in-Ok-Load-clause-done : goal.returns-in-Ok-Load-clause-done
-returns-in-Ok-Load-clause-done g c = λ is command gives.
-    let same = sym c.in-Ok-Load.field-0-is ∙ c.in-Ok-Load.ensures.once command gives in
-    let run = c.octo_rounds-in-Ok-Load in
-    subst (λ (k : Command). GivenFor k (g.S.Source.left c.args.source.now) (g.S.Source.left c.args.source.now) (Reported (options_in k) (g.T.Sink.holds c.args.out.now) (g.T.Sink.holds run.new.out))) same
-    (load_given c.in-Ok-Load.records c.in-Ok-Load.start c.in-Ok-Load.options _ _ run.ensures.front.0 (g.S.Source.left c.args.source.now) _ c.new-generated.ensures run.ensures.front.1 (run.ensures.done is))
+pub returns-in-Ok-clause-unrefused : goal.returns-in-Ok-clause-unrefused
+returns-in-Ok-clause-unrefused g c = λ is command gives.
+    subst (λ (k : Command). GivenFor k (g.S.Source.left c.args.source.now) (g.S.Source.left c.carry_out.new.source) IsUnrefused)
+    (c.in-Ok.ensures.once command gives) (c.carry_out.ensures.ended.unrefused is)
 
-pub returns-in-Ok-Load-clause-cut : goal.returns-in-Ok-Load-clause-cut
-returns-in-Ok-Load-clause-cut g c = λ is command gives.
-    let same = sym c.in-Ok-Load.field-0-is ∙ c.in-Ok-Load.ensures.once command gives in
-    let run = c.octo_rounds-in-Ok-Load in
-    subst (λ (k : Command). GivenFor k (g.S.Source.left c.args.source.now) (g.S.Source.left c.args.source.now) (CutShort (options_in k) (g.T.Sink.holds c.args.out.now) (g.T.Sink.holds run.new.out))) same
-    (load_given c.in-Ok-Load.records c.in-Ok-Load.start c.in-Ok-Load.options _ _ run.ensures.front.0 (g.S.Source.left c.args.source.now) _ c.new-generated.ensures run.ensures.front.1 (run.ensures.cut is))
+pub returns-in-Ok-clause-cut : goal.returns-in-Ok-clause-cut
+returns-in-Ok-clause-cut g c = λ is command gives.
+    subst (λ (k : Command). GivenFor k (g.S.Source.left c.args.source.now) (g.S.Source.left c.carry_out.new.source) (CutShort (HasText k) (g.T.Sink.holds c.args.out.now) (g.T.Sink.holds c.carry_out.new.out)))
+    (c.in-Ok.ensures.once command gives) (c.carry_out.ensures.ended.cut is)
 
-pub returns-in-Ok-Load-clause-bad : goal.returns-in-Ok-Load-clause-bad
-returns-in-Ok-Load-clause-bad g c = λ either command gives.
-    let same = sym c.in-Ok-Load.field-0-is ∙ c.in-Ok-Load.ensures.once command gives in
-    let run = c.octo_rounds-in-Ok-Load in
-    let bad = run.ensures.bad either in (
+pub returns-in-Ok-clause-bad : goal.returns-in-Ok-clause-bad
+returns-in-Ok-clause-bad g c = λ either command gives.
+    let bad = c.carry_out.ensures.ended.bad either in (
       bad.0,
       bad.1,
-      subst (λ (k : Command). GivenFor k (g.S.Source.left c.args.source.now) (g.S.Source.left c.args.source.now) (λ given rest. HoldsRefusal given rest bad.0)) same
-          (load_given c.in-Ok-Load.records c.in-Ok-Load.start c.in-Ok-Load.options _ _ run.ensures.front.0 (g.S.Source.left c.args.source.now) _ c.new-generated.ensures run.ensures.front.1 bad.2),
+      subst (λ (k : Command). GivenFor k (g.S.Source.left c.args.source.now) (g.S.Source.left c.carry_out.new.source) (λ given rest. HoldsRefusal given rest bad.0))
+          (c.in-Ok.ensures.once command gives) bad.2,
       bad.3,
     )
 
-pub returns-in-Ok-Load-clause-accepted : goal.returns-in-Ok-Load-clause-accepted
-returns-in-Ok-Load-clause-accepted g c = λ either command gives.
-    let same = sym c.in-Ok-Load.field-0-is ∙ c.in-Ok-Load.ensures.once command gives in
-    let run = c.octo_rounds-in-Ok-Load in
-    subst (λ (k : Command). GivenFor k (g.S.Source.left c.args.source.now) (g.S.Source.left c.args.source.now) IsAccepted) same
-    (load_given c.in-Ok-Load.records c.in-Ok-Load.start c.in-Ok-Load.options _ _ run.ensures.front.0 (g.S.Source.left c.args.source.now) _ c.new-generated.ensures run.ensures.front.1 (run.ensures.accepted either))
+pub returns-in-Ok-clause-accepted : goal.returns-in-Ok-clause-accepted
+returns-in-Ok-clause-accepted g c = λ either command gives.
+    subst (λ (k : Command). GivenFor k (g.S.Source.left c.args.source.now) (g.S.Source.left c.carry_out.new.source) IsAccepted)
+    (c.in-Ok.ensures.once command gives) (c.carry_out.ensures.ended.accepted either)
+
+pub returns-in-Ok-clause-generated : goal.returns-in-Ok-clause-generated
+returns-in-Ok-clause-generated g c = λ records start o gives.
+    subst (λ (k : Command). Leaves k c.args.source.now c.carry_out.new.source) (c.in-Ok.ensures.once (Load records start o) gives) c.carry_out.ensures.left
+
+pub returns-in-Ok-clause-unfailed : goal.returns-in-Ok-clause-unfailed
+returns-in-Ok-clause-unfailed g c = λ records start o gives.
+    subst (λ (k : Command). Spares k c.carry_out.result) (c.in-Ok.ensures.once (Load records start o) gives) c.carry_out.ensures.spared

@@ -1,14 +1,22 @@
 use Rattle.push_rule.proofs.Sides.{written}
 use Rattle.push_rule.proofs.side.Side.put.Goals as goal
 
-pub returns-in-Some-clause-put : goal.returns-in-Some-clause-put
-returns-in-Some-clause-put g c = (written _ _ c.args.cell c.in-Some.place c.args.held c.in-Some.ensures.0 c.write_at.ensures.unique c.in-Some.ensures.1 c.write_at.ensures.written).put
+pub returns-then-is_at-clause-put : goal.returns-then-is_at-clause-put
+returns-then-is_at-clause-put g c =
+    let found = c.is_at.ensures c.if-is_at.true in
+    (written _ _ c.args.cell c.get.result.now c.args.held found.0 c.write_at.ensures.unique found.1 c.write_at.ensures.written).put
 
-pub returns-in-Some-clause-unique : goal.returns-in-Some-clause-unique
-returns-in-Some-clause-unique g c = (written _ _ c.args.cell c.in-Some.place c.args.held c.in-Some.ensures.0 c.write_at.ensures.unique c.in-Some.ensures.1 c.write_at.ensures.written).unique
+pub returns-then-is_at-clause-unique : goal.returns-then-is_at-clause-unique
+returns-then-is_at-clause-unique g c =
+    let found = c.is_at.ensures c.if-is_at.true in
+    (written _ _ c.args.cell c.get.result.now c.args.held found.0 c.write_at.ensures.unique found.1 c.write_at.ensures.written).unique
 
-pub returns-in-Some-clause-grows : goal.returns-in-Some-clause-grows
-returns-in-Some-clause-grows g c = (written _ _ c.args.cell c.in-Some.place c.args.held c.in-Some.ensures.0 c.write_at.ensures.unique c.in-Some.ensures.1 c.write_at.ensures.written).grows
+pub returns-then-is_at-clause-grows : goal.returns-then-is_at-clause-grows
+returns-then-is_at-clause-grows g c =
+    let found = c.is_at.ensures c.if-is_at.true in
+    (written _ _ c.args.cell c.get.result.now c.args.held found.0 c.write_at.ensures.unique found.1 c.write_at.ensures.written).grows
 
-pub returns-in-Some-clause-room : goal.returns-in-Some-clause-room
-returns-in-Some-clause-room g c = (written _ _ c.args.cell c.in-Some.place c.args.held c.in-Some.ensures.0 c.write_at.ensures.unique c.in-Some.ensures.1 c.write_at.ensures.written).room
+pub returns-then-is_at-clause-room : goal.returns-then-is_at-clause-room
+returns-then-is_at-clause-room g c =
+    let found = c.is_at.ensures c.if-is_at.true in
+    (written _ _ c.args.cell c.get.result.now c.args.held found.0 c.write_at.ensures.unique found.1 c.write_at.ensures.written).room

@@ -1,0 +1,48 @@
+use Rattle.std.proofs.Common.{◌≡◌, ◌-◌, ◌<◌, ◌∷◌, ℕ, length, ap, arith}
+use Rattle.std.specs.Prelude.{count_by, nat_le}
+use Rattle.journal_audit.proofs.Counting.{one_counted}
+use Rattle.hash_rows.specs.Marks.{marked}
+use Rattle.octo_text.specs.Runs.{runs_of}
+use Rattle.octo_text.proofs.RunLemmas.{marked_behind, marked_clear, next_run, past_set}
+use Rattle.journal_audit.proofs.Counting.{none_behind}
+use Rattle.journal_audit.proofs.runs.count_runs_until.Goals as goal
+
+pub loop-start-init : goal.loop-start-init
+loop-start-init c =
+    let first = c.next_place-start.ensures in
+    let all : runs_of (marked c.args.bits.now) ≡ runs_of (marked_behind c.next_place-start.result c.args.bits.now) =
+    ap runs_of (marked_clear c.next_place-start.result c.args.bits.now 0 c.next_place-start.result (omega arith) first.high first.before) in
+    record {
+      count = omega (arith, ap (count_by (λ (run : ℕ × ℕ). nat_le run.0 c.args.last)) all);
+      few = omega arith;
+      len = c.len-len.ensures;
+      within = first.high;
+      set = first.found;
+    }
+
+pub loop-start-preserved : goal.loop-start-preserved
+loop-start-preserved c =
+    let bits = c.args.bits.now in
+    let start = c.loop-start.start in
+    let end = c.next_place-end.result in
+    let next = c.next_place-start-in-loop-start.result in
+    let i = c.loop-start.invariant in
+    let n = c.next_place-end.ensures in
+    let m = c.next_place-start-in-loop-start.ensures in
+    let within : start < length bits = omega (arith, i.len, c.loop-start-test.true) in
+    let past : start < end = past_set bits start end within (i.set within) n.low n.found in
+    let run : runs_of (marked_behind start bits) ≡ (start, end - 1) ∷ runs_of (marked_behind next bits) =
+    next_run bits start (end - 1) end next (omega arith) (omega arith) n.high n.before n.found m.low m.high m.before in
+    record {
+      count = one_counted c.args.last start (end - 1) c.loop-start.count (runs_of (marked_behind start bits)) (runs_of (marked_behind next bits)) run _ _ i.count c.one_until-count.ensures.one;
+      few = omega (arith, i.few, past, m.low, c.one_until-count.ensures.most);
+      len = i.len;
+      within = m.high;
+      set = m.found;
+    }
+
+pub returns : goal.returns
+returns c =
+    let i = c.loop-start.invariant in
+    let none = none_behind c.args.bits.now c.loop-start.start (omega (arith, i.len, c.loop-start-test.false)) in
+    record { count = omega (arith, i.count, ap (count_by (λ (run : ℕ × ℕ). nat_le run.0 c.args.last)) none); most = omega (arith, i.few, i.within) }

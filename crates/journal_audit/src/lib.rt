@@ -1,0 +1,11 @@
+//! Whether a journal is lawful for the packets of a capture, and else which of its lines fails.
+#![tactic(auto)]
+
+mod given;
+mod lines;
+mod runs;
+mod word;
+mod workers;
+
+pub use given::{Given, given_of};
+pub use word::Word;

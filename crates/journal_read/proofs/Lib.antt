@@ -1,0 +1,5 @@
+pub mod NumberTexts
+pub mod WordTexts
+pub mod Grouped
+pub mod KeyTexts
+pub mod NumberLists

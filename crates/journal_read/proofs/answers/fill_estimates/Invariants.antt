@@ -1,0 +1,9 @@
+use Rattle.std.proofs.Common.{◌≡◌, length}
+use Rattle.journal_read.proofs.NumberLists.{EstimatesFilled}
+use Rattle.journal_read.proofs.answers.fill_estimates.Given as goal
+
+abbrev pub invariant-loop-place : goal.invariant-loop-place
+invariant-loop-place l = record {
+  len : length l.into.items ≡ length l.initial.into.items;
+  filled : EstimatesFilled l.text l.into.items l.rest l.place;
+}

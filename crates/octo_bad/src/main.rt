@@ -1,0 +1,11 @@
+//! The program octo, run on bytes that are no capture.
+#![tactic(auto)]
+
+use octo_main::program;
+use std::io;
+use std::process::ExitCode;
+
+fn main(rt: HostRuntime) -> ExitCode {
+    let error_output = rt.stderr();
+    program(&rt, io::writer(&error_output))
+}

@@ -1,0 +1,17 @@
+ghost use Rattle.std.specs.Prelude.{◌≡◌, ℕ, List};
+ghost use Rattle.hash_rows.specs.declared.options.Mode.{Mode};
+ghost use Rattle.hash_rows.specs.declared.options.Options.{Options};
+ghost use Rattle.octo_run.specs.Runs.{IsRunText};
+ghost use Rattle.reports.specs.ReportOf.{AskForOneReport};
+
+/// In rounds, bytes and options determine the text. A law: it does nothing when it runs.
+pub fn one_text()
+    ensures { (o : Options) (bytes s t : List ℕ) → o.mode ≡ Mode.Rounds → IsRunText o bytes s → IsRunText o bytes t → s ≡ t }
+{}
+
+/// In both modes bytes and sketch determine the report: who counted the packets, and who asked
+/// meanwhile, has no part in it.
+pub fn one_report()
+    ensures { (o p : Options) (bytes s t : List ℕ) → AskForOneReport o p
+        → (a : IsRunText o bytes s) → (b : IsRunText p bytes t) → a.report ≡ b.report }
+{}

@@ -1,0 +1,13 @@
+use Rattle.octo_tests.proofs.Headline.{given_all, told}
+use Rattle.octo_run.specs.Runs.{IsRunText}
+use Rattle.words.specs.declared.command.Command.TheVariants.{Run, Load}
+use Rattle.octo_tests.proofs.headline.whole_run.Goals as goal
+
+pub returns-clause-run : goal.returns-clause-run
+returns-clause-run g c = λ is o gives rounds text tells.
+    told (IsRunText o) (λ given s t. c.one_text.ensures o given s t rounds) _ _ _
+    (given_all (IsRunText o) _ _ _ _ _ c.octo.ensures.front.1 (c.octo.ensures.done is (Run o) gives)) text tells
+
+pub returns-clause-load : goal.returns-clause-load
+returns-clause-load g c = λ is n k o gives rounds text tells.
+    told (IsRunText o) (λ given s t. c.one_text.ensures o given s t rounds) _ _ _ (c.octo.ensures.done is (Load n k o) gives) text tells

@@ -1,0 +1,10 @@
+pub mod Lists
+pub mod Keeping
+pub mod Endings
+pub mod Outcomes
+pub mod Table
+pub mod Starting
+pub mod Stopping
+pub mod Drains
+pub mod Learning
+pub mod Growing

@@ -1,0 +1,11 @@
+pub mod Rans
+pub mod Starts
+pub mod Blanks
+pub mod Ends
+pub mod Drains
+pub mod Tells
+pub mod Residues
+pub mod Rooms
+pub mod Outcomes
+pub mod Tables
+pub mod Stops
