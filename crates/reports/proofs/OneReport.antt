@@ -12,7 +12,7 @@ use Rattle.hash_rows.specs.declared.options.Sketch.TheVariants.{CountMin, CountS
 use Rattle.hash_rows.specs.declared.shape.Flow.{Flow}
 use Rattle.hash_rows.specs.declared.shape.Packet.{Packet}
 use Rattle.hash_rows.specs.declared.shape.Tallies.{Tallies}
-use Rattle.heavy_keys.specs.FinalHeavy.{AreHeaviest, IsBefore, IsFinalHeavy, key_order}
+use Rattle.heavy_keys.specs.FinalHeavy.{AreHeaviest, IsBefore, IsFinalHeavy, key_cmp}
 use Rattle.heavy_keys.proofs.Members.{Has, contains_from, has_from}
 use Rattle.octo_text.specs.Lines.{count_line, words_line}
 use Rattle.octo_text.specs.ReportText.{report_text, sketch_line, capture_lines, table_lines, estimate_line, estimate_lines, flow_lines}
@@ -20,7 +20,7 @@ use Rattle.octo_text.specs.declared.report.Report.{Report}
 use Rattle.reports.specs.ReportOf.{AskForOneReport, Distinct, Finds, HeavyFlows, IsReport}
 use Rattle.reports.proofs.OneOrder.{one_list}
 
-turned : (a b : FlowKey) → key_order a b ≡ Less → key_order b a ≡ Less → ⊥
+turned : (a b : FlowKey) → key_cmp a b ≡ Less → key_cmp b a ≡ Less → ⊥
 turned a b p q = let bad : Less ≡ Greater = sym p ∙ total-law.antisymm a b ∙ ap ordering_reverse q in cc
 
 strict : (a b : Flow) → IsBefore a b → IsBefore b a → ⊥
