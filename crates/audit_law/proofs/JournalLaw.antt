@@ -41,9 +41,7 @@ module _ (packets : List Packet) (o : Options) (j : Journal) (form : HasForm o j
         places = form.places;
         answers = answers_lawful o j messages workers form answers;
         ordered = answers_ordered o j messages workers form answers;
-        live_table = live.live_table;
-        growing = live.growing;
-        alone = live.alone;
+        heavy = record { live_table = live.live_table; growing = live.growing; alone = live.alone };
       }
 
   pub none_where_lawful : IsThreadsJournal packets o j → Hold (tests_of packets o j)
@@ -55,4 +53,4 @@ module _ (packets : List Packet) (o : Options) (j : Journal) (form : HasForm o j
       (workers_tested packets o j (subst (λ (t : List (List Push)). LawfulWorkers packets o j t) is h.workers))
       (hold_append of_answers of_live
       (answers_tested o j messages workers form (subst (λ (t : List (List Push)). All (IsLawfulAnswer o t) j.answers) is h.answers) h.ordered)
-      (live_tested o j messages (subst (λ (t : List (List Push)). AreLive o j t) is (record { live_table = h.live_table; growing = h.growing; alone = h.alone }))))
+      (live_tested o j messages (subst (λ (t : List (List Push)). AreLive o j t) is (record { live_table = h.heavy.live_table; growing = h.heavy.growing; alone = h.heavy.alone }))))

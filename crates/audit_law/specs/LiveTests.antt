@@ -6,7 +6,7 @@ use Rattle.hash_rows.specs.declared.options.Options.{Options}
 use Rattle.hash_rows.specs.declared.options.Sketch.{Sketch}
 use Rattle.hash_rows.specs.declared.options.Sketch.TheVariants.{CountMin, LogLog}
 use Rattle.hash_rows.specs.declared.shape.Push.{Push}
-use Rattle.hash_rows.specs.Keys.{same_key}
+use Rattle.packet_key.specs.Keys.{same_key}
 use Rattle.push_history.specs.Journal.{Journal, rules_in}
 use Rattle.push_history.specs.LawfulJournal.{all_of, not_live, sure_missed, possible_missed, estimate_on_all}
 use Rattle.push_history.specs.LiveHeavy.{is_among, live_keys, missed_keys}
