@@ -1,5 +1,5 @@
 -- A worker takes up one update more.
-use Rattle.std.proofs.Common.{◌≡◌, ◌<◌, ◌≤◌, ℕ, ℤ, ◌+◌, ◌-◌, ◌==◌, List, [], ◌∷◌, ◌++◌, length, take, drop, length-append, length-take, length-drop, Bool, true, false, nat_lt, refl, sym, ap, ◌∙◌, subst, arith, append_assoc, All}
+use Rattle.std.proofs.Common.{zero, suc, ◌≡◌, ◌<◌, ◌≤◌, ℕ, ℤ, ◌+◌, ◌-◌, ◌==◌, List, [], ◌∷◌, ◌++◌, length, take, drop, length-append, length-take, length-drop, Bool, true, false, nat_lt, refl, sym, ap, ◌∙◌, subst, arith, append_assoc, All}
 use Rattle.std.specs.Prelude.{◌&&◌, nat_le, Option, Some, None, MatchOption}
 use Rattle.std.proofs.lemmas.List.{take_more, length_push, take-append-drop, take-append-le, take-take}
 use Rattle.std.proofs.Math.Seq.{take-length}
@@ -8,7 +8,7 @@ use Rattle.hash_rows.specs.declared.options.Full.{Full}
 use Rattle.hash_rows.specs.declared.options.Full.TheVariants.{Leave, Wait}
 use Rattle.hash_rows.specs.declared.shape.Update.{Update}
 use Rattle.hash_rows.specs.declared.shape.Push.{Push}
-use Rattle.hash_rows.specs.Rules.{Rules}
+use Rattle.hash_rows.specs.Rules.{Rules, AreLaws}
 use Rattle.push_history.specs.declared.event.Reply.TheVariants.{Counted, Pushed, Refused, Waits}
 use Rattle.push_history.specs.LagRun.{Terms, Worker, fresh_worker, updates_by, count_step, message_of, meets_full, pushes}
 use Rattle.push_history.specs.Pushes.{ArePushes, distance_at}
@@ -327,3 +327,13 @@ keeps_fresh stands t w d stood idle threshold worker lane full queue taken = rec
   taken = omega (arith, taken);
   taken_within = omega (arith, taken);
 }
+
+-- what joins the told value to the whole one is a value
+pub residue_value : {H : Type 0} (stands : H → ℤ → ℤ → Type 0) (r : Rules) → AreLaws r
+    → ((h : H) (said all : ℤ) → stands h said all → (r.is_value said ≡ true) × (r.is_value all ≡ true) × (r.is_behind said all ≡ true))
+    → (held : List H) (cell : ℕ) → cell < length held → (said all z : ℤ) → StandsAt stands held cell said all → z ≡ r.gap said all → r.is_value z ≡ true
+residue_value {H} stands r laws values [] cell lt said all z at is = absurd (omega arith)
+residue_value {H} stands r laws values (h ∷ held) zero lt said all z at is =
+    let both = values h said all (at h refl) in
+    ap r.is_value is ∙ laws.gap_value said all both.0 both.1
+residue_value {H} stands r laws values (h ∷ held) (suc cell) lt said all z at is = residue_value stands r laws values held cell (omega arith) said all z at is

@@ -1,5 +1,2 @@
-pub mod HeldLemmas
-pub mod Sides
-pub mod Sound
 pub mod Standing
 pub mod CounterSteps

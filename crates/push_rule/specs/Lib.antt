@@ -1,4 +1,3 @@
-pub mod Bytes
 pub mod Stands
 pub mod Counters
 pub mod Keeps

@@ -1,11 +1,10 @@
 -- What a private sketch stands for.
-use Rattle.std.specs.Prelude.{◌≡◌, ◌<◌, ◌≤◌, ◌+◌, ℕ, ℤ, List, [], ◌∷◌, ◌++◌, length, slice_get, slice_index_or, Bool, false, Option, Some, MatchOption, refl}
+use Rattle.std.specs.Prelude.{◌≡◌, ◌<◌, ◌≤◌, ℕ, ℤ, List, [], ◌∷◌, ◌++◌, length, slice_get, slice_index_or, Bool, false, Option, Some, MatchOption, refl}
 use Rattle.std.specs.Coded.{Coded, code_by, coded×, coded_ℕ, coded_bool, coded_list, coded_option}
 use Rattle.hash_rows.specs.declared.shape.Update.{Update}
 use Rattle.hash_rows.specs.declared.shape.Push.{Push}
 use Rattle.hash_rows.specs.Rules.{Rules}
 use Rattle.push_history.specs.Whole.{whole_of}
-use Rattle.push_rule.specs.Bytes.{HeldView}
 use Rattle.push_history.specs.Told.{told_of}
 use Rattle.push_history.specs.Pushes.{ArePushes, is_refused}
 
@@ -26,12 +25,6 @@ private_code {Held} code =
     (coded× (coded_list code) (coded× coded_ℕ (coded× coded_ℕ (coded× coded_ℕ (coded× (coded_option coded_ℕ) (coded_list coded_bool))))))
     (λ s. (s.held, (s.threshold, (s.room, (s.counted, (s.due, s.bits))))))
     (λ p. record { held = p.0; threshold = p.1.0; room = p.1.1.0; counted = p.1.1.1.0; due = p.1.1.1.1.0; bits = p.1.1.1.1.1 }) (λ _. refl)
-
--- one bit and room for one entry an update; an entry of the side table, or a cell that is due, is of an update of its own
-pub record IsPrivate {Held : Type 0} (cells : HeldView Held) (counted : ℕ) (bits : List Bool) : Type 0 where
-  pub marks : length bits ≡ cells.room
-  pub within : counted ≤ cells.room
-  pub entries : MatchOption cells.due (cells.used ≤ counted) (λ _. cells.used + 1 ≤ counted)
 
 -- what is held of the cell stands for these two values
 abbrev pub StandsAt : {Held : Type 0} → (Held → ℤ → ℤ → Type 0) → List Held → ℕ → ℤ → ℤ → Type 0

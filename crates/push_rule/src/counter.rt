@@ -36,8 +36,7 @@ impl<K: Kind> Model for Counter<K> {
 }
 
 impl<K: Kind> Counter<K> {
-    ghost use Rattle.std.specs.Prelude.{None, ◌&&◌, ◌||◌, nat_le, nat_lt, false, if◌then◌else◌, max, slice_index_or, slice_set, replicate, ℤ};
-    ghost use Rattle.push_rule.specs.Stands.{StandsAt, StandsFor};
+    ghost use Rattle.std.specs.Prelude.{None, ◌&&◌, ◌||◌, nat_le, nat_lt, false, if◌then◌else◌, max, slice_index_or};
     ghost use Rattle.push_history.specs.Pushes.{distance_at, is_refused};
     ghost use Rattle.push_rule.specs.Counters.{KeepsSettings, Extends, in_lane, is_wait};
     ghost use Rattle.push_history.specs.Rounds.{is_waits};
@@ -142,28 +141,6 @@ impl<K: Kind> Counter<K> {
             → result ≡ residue t.rules (updates_by t w) x.sent x.counted cell }
     {
         self.sketch.residue(cell)
-    }
-
-    /// Answers what was counted of the cell and not told, and forgets the cell.
-    pub fn settle(&mut self, cell: u32) -> i64
-        requires { cell < length self.old.sketch.held }
-        ensures gap { (told whole : ℤ) → StandsAt K.stands self.old.sketch.held cell told whole → result ≡ K.rules.gap told whole }
-        ensures held { self.new.sketch.held ≡ slice_set self.old.sketch.held cell K.fresh_held }
-        ensures same { self.new ≡ record self.old { sketch = record self.old.sketch { held = self.new.sketch.held } } }
-    {
-        self.sketch.settle(cell)
-    }
-
-    /// Begins again, for as many updates, where nothing is held of any cell.
-    pub fn restart(&mut self)
-        requires { self.old.sketch.held ≡ replicate (length self.old.sketch.held) K.fresh_held }
-        ensures fresh { StandsFor K.stands K.rules self.new.sketch [] [] [] }
-        ensures none { (self.new.queue ≡ []) × (self.new.taken ≡ 0) }
-        ensures same { KeepsSettings self.old (record self.new { taken = self.old.taken }) }
-    {
-        self.sketch.restart();
-        self.queue.truncate(0);
-        self.taken = 0;
     }
 
     /// For each update whether its push was refused.

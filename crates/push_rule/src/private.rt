@@ -1,4 +1,4 @@
-ghost use Rattle.std.specs.Prelude.{◌≡◌, ◌<◌, ◌≤◌, ◌+◌, ◌-◌, ℕ, ℤ, [], ◌∷◌, ◌++◌, List, length, true, false, nat_le, nat_lt, Some, None, IsSome, IfOk, MatchOption, option_map, slice_index_or, slice_set, replicate, count_by, is_none, map};
+ghost use Rattle.std.specs.Prelude.{◌≡◌, ◌<◌, ◌≤◌, ◌+◌, ◌-◌, ℕ, ℤ, [], ◌∷◌, ◌++◌, List, length, true, false, nat_le, nat_lt, Some, None, IsSome, IfOk, MatchOption, option_map, slice_index_or};
 ghost use Rattle.packet_key.specs.declared.key.FlowKey.{FlowKey};
 ghost use Rattle.hash_rows.specs.declared.shape.Push.{Push};
 ghost use Rattle.hash_rows.specs.declared.shape.Update.{Update};
@@ -6,33 +6,35 @@ ghost use Rattle.push_history.specs.Pushes.{is_refused};
 ghost use Rattle.push_history.specs.Residue.{residue};
 ghost use Rattle.push_history.specs.Told.{told_of};
 ghost use Rattle.push_history.specs.Whole.{whole_of};
-ghost use Rattle.push_rule.specs.Bytes.{byte_of};
 
-use crate::held::HeldCells;
 use flow_base::NoMemory;
 use hash_rows::{Bits, Kind};
+use listed::Listed;
 use std::alloc::Global;
 use std::marker::Model;
 
 /// What a worker counted of each cell and told of it.
 #[derive(Drop)]
 pub struct Private<K: Kind> {
-    cells: HeldCells<K>,
+    held: Listed<K::Held>,
     threshold: u64,
+    room: u32,
     counted: u32,
+    due: Option<u32>,
     bits: Bits,
 }
 
 impl<K: Kind> Model for Private<K> {
-    ghost use Rattle.push_rule.specs.Stands.{PrivateView, private_code, IsPrivate};
+    ghost use Rattle.std.specs.Prelude.{◌≡◌, ◌<◌, ◌≤◌, length, ℕ, Some};
+    ghost use Rattle.push_rule.specs.Stands.{PrivateView, private_code};
 
     ghost Value = { PrivateView K.Held };
 
     ghost coded = { private_code K.Held.code };
 
-    ghost view = { λ p. record { held = p.cells.held; threshold = p.threshold; room = p.cells.room; counted = p.counted; due = p.cells.due; bits = p.bits } };
+    ghost view = { λ p. record { held = p.held.items; threshold = p.threshold; room = p.room; counted = p.counted; due = p.due; bits = p.bits } };
 
-    ghost invariant = { λ p. IsPrivate p.cells p.counted p.bits };
+    ghost invariant = { λ p. (length p.bits ≡ p.room) × (p.counted ≤ p.room) × ((cell : ℕ) → p.due ≡ Some cell → (cell < length p.held.items) × (0 < p.counted)) };
 }
 
 impl<K: Kind> Private<K> {
@@ -52,12 +54,14 @@ impl<K: Kind> Private<K> {
         ensures threshold { IfOk result (λ sketch. sketch.threshold ≡ threshold) }
         ensures room { IfOk result (λ sketch. sketch.room ≡ updates) }
     {
-        let cells = HeldCells::new(alloc, cells, updates)?;
+        let held = Listed::filled(alloc, cells, K::fresh())?;
         let bits = Bits::new(alloc, updates)?;
         Ok(Private {
-            cells,
+            held,
             threshold,
+            room: updates,
             counted: 0,
+            due: None,
             bits,
         })
     }
@@ -79,15 +83,14 @@ impl<K: Kind> Private<K> {
         ensures room_stays { self.new.room ≡ self.old.room }
         ensures cells { length self.new.held ≡ length self.old.held }
     {
-        let _updates = self.cells.room();
-        let held = K::counted(self.cells.get(cell), value);
+        let held = K::counted(*self.held.get(cell), value);
+        self.held.set(cell, held);
         self.counted += 1;
         let (distance, gap) = K::unsent(held);
         if distance >= self.threshold {
-            self.cells.owe(cell, held);
+            self.due = Some(cell);
             Some(gap)
         } else {
-            self.cells.set(cell, held);
             None
         }
     }
@@ -104,7 +107,7 @@ impl<K: Kind> Private<K> {
             → StandsFor K.stands K.rules self.now updates messages refused
             → result ≡ nat_le self.now.threshold (K.rules.distance (told_of K.rules cell messages) (K.rules.join (whole_of K.rules cell updates) value)) }
     {
-        let (distance, _) = K::unsent(K::counted(self.cells.get(cell), value));
+        let (distance, _) = K::unsent(K::counted(*self.held.get(cell), value));
         self.threshold <= distance
     }
 
@@ -128,8 +131,12 @@ impl<K: Kind> Private<K> {
         ensures room { self.new.room ≡ self.old.room }
         ensures cells { length self.new.held ≡ length self.old.held }
     {
-        match self.cells.due() {
-            Some(due) => self.cells.close(K::told_all(due.held)),
+        match self.due {
+            Some(cell) => {
+                let held = K::told_all(*self.held.get(cell));
+                self.held.set(cell, held);
+                self.due = None;
+            }
             None => unreachable!(),
         }
     }
@@ -146,10 +153,10 @@ impl<K: Kind> Private<K> {
         ensures threshold { self.new.threshold ≡ self.old.threshold }
         ensures room { self.new.room ≡ self.old.room }
     {
-        match self.cells.due() {
-            Some(due) => {
+        match self.due {
+            Some(_) => {
                 self.bits.set(self.counted - 1);
-                self.cells.close(due.held);
+                self.due = None;
             }
             None => unreachable!(),
         }
@@ -162,39 +169,8 @@ impl<K: Kind> Private<K> {
         ensures stands { (updates : List Update) (messages : List Push) (refused : List ℕ)
             → StandsFor K.stands K.rules self.now updates messages refused
             → result ≡ residue K.rules updates messages (length updates) cell }
-        ensures value { (updates : List Update) (messages : List Push) (refused : List ℕ)
-            → StandsFor K.stands K.rules self.now updates messages refused
-            → K.rules.is_value result ≡ true }
     {
-        K::unsent(self.cells.get(cell)).1
-    }
-
-    /// Answers what was counted of the cell and not told, and forgets the cell.
-    pub fn settle(&mut self, cell: u32) -> i64
-        requires idle { self.old.due ≡ None }
-        requires cell { cell < length self.old.held }
-        ensures gap { (told whole : ℤ) → StandsAt K.stands self.old.held cell told whole → result ≡ K.rules.gap told whole }
-        ensures held { self.new.held ≡ slice_set self.old.held cell K.fresh_held }
-        ensures same { self.new ≡ record self.old { held = self.new.held } }
-    {
-        let residue = self.residue(cell);
-        self.cells.forget(cell);
-        residue
-    }
-
-    /// Begins again, for as many updates, where nothing is held of any cell.
-    pub fn restart(&mut self)
-        requires idle { self.old.due ≡ None }
-        requires fresh { self.old.held ≡ replicate (length self.old.held) K.fresh_held }
-        ensures fresh { StandsFor K.stands K.rules self.new [] [] [] }
-        ensures idle { self.new.due ≡ None }
-        ensures cells { length self.new.held ≡ length self.old.held }
-        ensures threshold { self.new.threshold ≡ self.old.threshold }
-        ensures room { self.new.room ≡ self.old.room }
-    {
-        self.cells.restart();
-        self.counted = 0;
-        self.bits.clear();
+        K::unsent(*self.held.get(cell)).1
     }
 
     /// How far what was told of the cell is from the whole.
@@ -202,21 +178,7 @@ impl<K: Kind> Private<K> {
         requires { cell < length self.now.held }
         ensures { (told whole : ℤ) → StandsAt K.stands self.now.held cell told whole → result ≡ K.rules.distance told whole }
     {
-        K::unsent(self.cells.get(cell)).0
-    }
-
-    /// How many cells hold a value that has no small form.
-    pub fn wide(&self) -> u32
-        ensures { result ≡ count_by (λ held. is_none (K.small_of held)) self.now.held }
-    {
-        self.cells.wide()
-    }
-
-    /// Lends one byte a cell: the small form of its held value, or -128 where it has none.
-    pub fn small_bytes(&self) -> &[i8]
-        ensures { result.now ≡ map (λ held. byte_of (K.small_of held)) self.now.held }
-    {
-        self.cells.bytes()
+        K::unsent(*self.held.get(cell)).0
     }
 
     /// How many updates were counted.
@@ -230,7 +192,7 @@ impl<K: Kind> Private<K> {
     pub fn has_left(&self) -> bool
         ensures { result ≡ nat_lt self.now.counted self.now.room }
     {
-        self.counted < self.cells.room()
+        self.counted < self.room
     }
 
     /// Whether the push of this update was refused.

@@ -1,4 +1,4 @@
-use Rattle.std.proofs.Common.{refl, ◌∙◌, ap, sym, ℕ, false}
+use Rattle.std.proofs.Common.{refl, ap, ◌∙◌}
 use Rattle.std.specs.Prelude.{replicate}
 use Rattle.push_rule.proofs.Standing.{stands_fresh}
 use Rattle.push_rule.proofs.private.Private.new.Goals as goal
@@ -6,4 +6,4 @@ use Rattle.push_rule.proofs.private.Private.new.Goals as goal
 pub returns-clause-fresh : goal.returns-clause-fresh
 returns-clause-fresh g c =
     let kind = (g.met.K.Kind g.world.𝓛 g.world.𝓜 g.world.𝓡 ((λ s x. x), (λ x. x), (λ x. x), (λ x. x))) in
-    stands_fresh g.K.Kind.stands g.K.Kind.rules _ g.K.Kind.fresh_held c.args.cells kind.fresh_stands c.in_ok-cells.ensures.held refl c.in_ok-cells.ensures.idle (c.in_ok-bits.ensures ∙ ap (λ (n : ℕ). replicate n false) (sym c.in_ok-cells.ensures.room))
+    stands_fresh g.K.Kind.stands g.K.Kind.rules _ g.K.Kind.fresh_held c.args.cells kind.fresh_stands (c.in_ok-held.ensures.items ∙ ap (replicate c.args.cells) c.fresh.ensures) refl refl c.in_ok-bits.ensures

@@ -1,5 +1,0 @@
-use Rattle.std.proofs.Common.{◌≡◌, ◌<◌, length, None}
-use Rattle.sketch_tests.proofs.private_cells.holds.Given as goal
-
-abbrev pub invariant-loop-step : goal.invariant-loop-step
-invariant-loop-step g l = (l.sketch.due ≡ None) × (l.sketch.room ≡ 4) × (0 < length l.sketch.held)
