@@ -1,1 +1,1 @@
-mod Headline
+mod ToldText

@@ -1,4 +1,4 @@
-use Rattle.octo_tests.proofs.Headline.{given_all, told}
+use Rattle.octo_tests.proofs.ToldText.{given_all, told}
 use Rattle.octo_run.specs.Runs.{IsRunText}
 use Rattle.words.specs.declared.command.Command.TheVariants.{Run, Load}
 use Rattle.octo_tests.proofs.headline.whole_run.Goals as goal
