@@ -28,7 +28,7 @@ fn exit_of(status: Status) -> ExitCode
 }
 
 /// Runs the program, and answers its exit code.
-pub fn program<R: Env + Alloc<A = Global> + Input + Print + Threads + Sync, W: Write>(
+pub fn program<R: Env + Alloc<A = Global> + Input + Print + Threads + Sync, W: Write + Drop>(
     rt: &R,
     error_output: W,
 ) -> ExitCode {
