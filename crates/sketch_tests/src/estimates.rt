@@ -1,7 +1,5 @@
 use count_sketch::lower_median;
-use hash_rows::{Shape, Table};
-use loglog_regs::{LogLog, distinct, rank};
-use std::test::Fail;
+use loglog_regs::rank;
 
 #[test]
 fn takes_the_lower_of_two_medians(rt: HostRuntime) {
@@ -22,22 +20,4 @@ fn ranks_by_trailing_zeros(rt: HostRuntime) {
     ] {
         assert_eq!(rt; rank(hash, columns), wanted);
     }
-}
-
-// By the formulas in decimal numbers: 732.4 where each register is 3, and 128 times the sum of 1 / i
-// for i from 65 to 128 where half of them are 0.
-#[test]
-fn estimates_by_registers(rt: HostRuntime) -> Result<(), Fail> {
-    let shape = Shape {
-        rows: 1,
-        columns: 128,
-    };
-    for (set, value, wanted) in [(128, 3, 732), (64, 1, 88)] {
-        let mut table: Table<LogLog> = Table::new(rt.alloc(), shape)?;
-        for cell in 0..set {
-            table.put(cell, value);
-        }
-        assert_eq!(rt; distinct(&table), wanted);
-    }
-    Ok(())
 }
