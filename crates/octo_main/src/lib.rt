@@ -2,6 +2,6 @@
 //! the top call, and its status becomes the exit status.
 #![tactic(auto)]
 
-mod program;
+mod standard;
 
-pub use program::program;
+pub use standard::program;
