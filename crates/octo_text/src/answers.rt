@@ -55,8 +55,7 @@ fn write_answer<T: Sink>(out: &mut T, answer: &Answer) -> Result<(), Failed>
     ensures writes { Writes (T.holds out.old) (T.holds out.new) (answer_line (parts_of answer.now)) result }
     ensures cause { HasCause (T.faults out.old) (T.faults out.new) result }
 {
-    let mut line = answer_line(answer);
-    line.send(out)
+    answer_line(answer).send(out)
 }
 
 /// Writes a line for each answer.

@@ -94,8 +94,7 @@ fn write_options<T: Sink>(out: &mut T, options: &Options) -> Result<(), Failed>
     ensures writes { Writes (T.holds out.old) (T.holds out.new) (options_line options.now) result }
     ensures cause { HasCause (T.faults out.old) (T.faults out.new) result }
 {
-    let mut line = options_line(options);
-    line.send(out)
+    options_line(options).send(out)
 }
 
 fn write_terms<T: Sink>(out: &mut T, options: &Options) -> Result<(), Failed>

@@ -87,10 +87,10 @@ impl Line {
         &self.bytes[..self.len]
     }
 
-    /// Ends the line with a line feed, and writes it as one piece.
-    pub fn send<T: Sink>(&mut self, out: &mut T) -> Result<(), Failed>
-        requires { length self.old + 1 ≤ 1024 }
-        ensures writes { Writes (T.holds out.old) (T.holds out.new) (self.old ++ codes "\n") result }
+    /// Ends the line with a line feed, and writes it as one piece. The line is gone then.
+    pub fn send<T: Sink>(mut self, out: &mut T) -> Result<(), Failed>
+        requires { length self + 1 ≤ 1024 }
+        ensures writes { Writes (T.holds out.old) (T.holds out.new) (self ++ codes "\n") result }
         ensures cause { HasCause (T.faults out.old) (T.faults out.new) result }
     {
         self.text(b"\n");
