@@ -31,7 +31,6 @@ impl GenSource {
 
     /// The generated capture of so many records, from which `start` draws the fields.
     pub fn new(records: u32, start: u32) -> GenSource
-        requires { records ≤ 1048576 }
         ensures { left_of result ≡ generated records start }
     {
         let mut part = [0u8; 58];

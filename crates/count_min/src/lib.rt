@@ -2,5 +2,7 @@
 #![tactic(auto)]
 
 mod kind;
+mod laws;
 
 pub use kind::CountMin;
+pub use laws::no_estimate_is_below;
