@@ -1,0 +1,4 @@
+mod Answering
+mod Ending
+mod Joining
+mod Outcomes
