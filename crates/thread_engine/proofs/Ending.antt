@@ -20,7 +20,8 @@ use Rattle.thread_run.specs.Workers.{HasWorked, IsReady}
 use Rattle.thread_run.specs.declared.parts.RestPart.{RestPart}
 use Rattle.thread_run.specs.declared.parts.WorkerPart.{WorkerPart}
 use Rattle.thread_setup.specs.declared.spare.Spare.{Spare}
-use Rattle.thread_engine.specs.Ended.{HasToldAll, HaveEnded, HaveToldAll, updates_by_rules}
+use Rattle.thread_engine.specs.Ended.{HaveEnded}
+use Rattle.thread_engine.specs.Tellings.{HasToldAll, HaveToldAll, updates_by_rules}
 use Rattle.thread_engine.proofs.Outcomes.{some_item}
 
 module _ {K H : Type 0} (stands : H → ℤ → ℤ → Type 0) (r : Rules) (o : Options) (packets : List Packet) (keys : List FlowKey) (lanes : List LaneView) (workers : List (WorkerPart K H))

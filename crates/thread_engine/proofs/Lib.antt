@@ -2,3 +2,4 @@ mod Answering
 mod Ending
 mod Joining
 mod Outcomes
+mod Settling

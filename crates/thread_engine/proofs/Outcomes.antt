@@ -38,7 +38,7 @@ use Rattle.octo_engine.proofs.Outcomes.{told_len}
 use Rattle.thread_law.specs.Ran.{AreAnswers, HasRan, refused_by, settled_of}
 use Rattle.thread_law.proofs.Fitting.{all_fit, fit_values, fold_of}
 use Rattle.thread_law.proofs.Sequentials.{settled_sequential}
-use Rattle.thread_engine.specs.Ended.{HasToldAll, HaveToldAll}
+use Rattle.thread_engine.specs.Tellings.{HasToldAll, HaveToldAll}
 use Rattle.thread_engine.specs.Residues.{Counted, HasJoined, residue_of}
 
 pub some_item : {A : Type 0} (xs : List A) (n : ℕ) → n < length xs → A

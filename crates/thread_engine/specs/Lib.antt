@@ -2,3 +2,4 @@ pub mod Ended
 pub mod Left
 pub mod Readers
 pub mod Residues
+pub mod Tellings
