@@ -1,5 +1,5 @@
 -- The answers of all readers are those of beginnings of what was published.
-use Rattle.std.proofs.Common.{◌≡◌, ◌<◌, ◌≤◌, ◌^◌, ℕ, zero, suc, ◌+◌, ◌*◌, ℤ, List, [], ◌∷◌, ◌++◌, length, take, get_or, Some, refl, sym, ap, ◌∙◌, subst, arith}
+use Rattle.std.proofs.Common.{◌≡◌, ◌<◌, ◌≤◌, ◌^◌, ℕ, zero, suc, ◌+◌, ◌*◌, ℤ, List, [], ◌∷◌, ◌++◌, length, take, get_or, Some, true, refl, sym, ap, ◌∙◌, subst, arith}
 use Rattle.std.specs.Prelude.{All, map, slice_get}
 use Rattle.std.specs.List.{flat_map}
 use mathlib.Core.List.{IsPrefix}
@@ -17,7 +17,7 @@ use Rattle.push_history.specs.Journal.{keys_of, rules_in}
 use Rattle.push_history.specs.Looks.{IsLook}
 use Rattle.push_history.specs.Shown.{told_cells}
 use Rattle.live_state.specs.Copies.{IsCopyOf}
-use Rattle.live_state.specs.Fold.{Fit, StateView, fits, state_after}
+use Rattle.live_state.specs.Fold.{Fit, StateView, fits, most, state_after}
 use Rattle.live_state.specs.Shows.{Shows}
 use Rattle.live_state.specs.declared.layout.Layout.{Layout}
 use Rattle.live_state.proofs.Live.{shows_all}
@@ -66,7 +66,7 @@ copied_look r o messages s a shows copy = record {
 module _ (r : Rules) (o : Options) (published : List Push) (fit : Fit r (layout_in o) published) (few : length published < 2 ^ 64) where
   shown_first : (n : ℕ) → Shows r (layout_in o) (take n published) (state_after r (layout_in o) (take n published))
   shown_first n =
-      let short : length (take n published) < 2 ^ 64 = omega (arith, length-take n published, few) in
+      let short : length (take n published) ≤ most = omega (arith, length-take n published, few) in
       shows_all r (layout_in o) (take n published) (All-take (λ m. fits r (layout_in o) m ≡ true) n published fit) short
 
   module _ (q : ℕ) (view : ReaderView) (answers : List Answer) (h : HasSeen r o published q view answers) where

@@ -1,6 +1,6 @@
 -- What a run comes to, once all that was sent is published.
-use Rattle.std.proofs.Common.{◌≡◌, ◌<◌, ◌^◌, ℕ, ℤ, pos, Bool, true, false, List, [], ◌∷◌, length, get_or, refl, sym, ap, ap₂, ◌∙◌, subst, arith}
-use Rattle.std.specs.Prelude.{All, fold, map}
+use Rattle.std.proofs.Common.{◌≡◌, ◌<◌, ◌≤◌, ◌^◌, ℕ, ℤ, pos, Bool, true, false, List, [], ◌∷◌, length, get_or, refl, sym, ap, ap₂, ◌∙◌, subst, arith}
+use Rattle.std.specs.Prelude.{All, fold, if◌then◌else◌, map}
 use Rattle.std.specs.List.{range_with_len}
 use Rattle.std.proofs.lemmas.List.{length-map, get_or-map}
 use Rattle.std.proofs.lemmas.List.FromFn.{fill_by_all, get_or-map-range_with_len}
@@ -19,6 +19,7 @@ use Rattle.hash_rows.specs.Tables.{TableView, value_at}
 use Rattle.push_history.specs.Front.{front_of, messages_of}
 use Rattle.push_history.specs.Journal.{rules_in, updates_by_options}
 use Rattle.push_history.specs.LawfulJournal.{sent_by}
+use Rattle.push_history.specs.LiveHeavy.{live_keys, live_of, notes_of}
 use Rattle.push_history.specs.Pushes.{LawfulPushes}
 use Rattle.push_history.specs.Shown.{told_cells}
 use Rattle.push_history.specs.Told.{told_of}
@@ -29,7 +30,8 @@ use Rattle.push_history.proofs.PlaceLists.{map_at}
 use Rattle.push_rule.specs.Stands.{PrivateView, StandsFor}
 use Rattle.aggregate.specs.Takens.{AreNamed, AreTaken}
 use Rattle.fold_law.specs.Folds.{IsFoldOf}
-use Rattle.live_state.specs.Fold.{Fit, StateView, state_after}
+use Rattle.fold_law.proofs.Live.{live_most}
+use Rattle.live_state.specs.Fold.{Fit, StateView, most, state_after}
 use Rattle.live_state.specs.Shows.{Shows}
 use Rattle.live_state.specs.declared.layout.Layout.{Layout}
 use Rattle.live_state.proofs.Live.{shows_all}
@@ -44,6 +46,11 @@ use Rattle.thread_engine.specs.Residues.{Counted, HasJoined, residue_of}
 pub some_item : {A : Type 0} (xs : List A) (n : ℕ) → n < length xs → A
 some_item [] n lt = absurd (omega (arith, lt))
 some_item (x ∷ xs) n lt = x
+
+live_keys_few : (r : Rules) (shape : Shape) (limit : ℕ) (least : ℤ) (messages : List Push) → length (live_keys r shape limit least messages) ≤ limit
+unfolding live_keys
+live_keys_few r shape limit least messages =
+    elim r.keyed as (λ (b : Bool). length (if b then live_of limit least (notes_of r shape messages) else []) ≤ limit) [ true ↦ live_most limit least (notes_of r shape messages) | false ↦ omega arith ]
 
 module _ {H : Type 0} (stands : H → ℤ → ℤ → Type 0) (packets : List Packet) (o : Options) (lawful : IsLawful o) (small : All (λ p. p.amount < 2 ^ 32) packets)
     (sketches : List (PrivateView H)) (sents : List (List Push)) (fulls : List ℕ) (told : HaveToldAll stands (rules_in o) o packets sketches sents fulls) where
@@ -97,8 +104,11 @@ module _ {H : Type 0} (stands : H → ℤ → ℤ → Type 0) (packets : List Pa
       values : All (λ m. (rules_in o).is_value m.amount ≡ true) published
       values = fit_values (rules_in o) (layout_in o) published fit
 
+      short : length published ≤ most
+      short = omega (arith, few)
+
       shows : Shows (rules_in o) (layout_in o) published s
-      shows = subst (λ (z : StateView). Shows (rules_in o) (layout_in o) published z) (sym state_is) (shows_all (rules_in o) (layout_in o) published fit (omega (arith, few)))
+      shows = subst (λ (z : StateView). Shows (rules_in o) (layout_in o) published z) (sym state_is) (shows_all (rules_in o) (layout_in o) published fit short)
 
       front_is : front_of o.workers published ≡ map (λ (l : List Push). length l) sents
       unfolding front_of
@@ -118,6 +128,10 @@ module _ {H : Type 0} (stands : H → ℤ → ℤ → Type 0) (packets : List Pa
         live_are = keys ∙ shows.keys;
         missed_is = least ∙ shows.missed;
       }
+
+      -- the live keys are at most as many as have room
+      pub live_few : length s.heavy.keys ≤ o.heavy
+      live_few = omega (arith, ap length shows.keys, live_keys_few (rules_in o) o.shape o.heavy o.least published)
 
       abbrev zero_joined : ℕ → ℤ
       zero_joined cell = (rules_in o).join (pos 0) (told_of (rules_in o) cell published)

@@ -12,7 +12,12 @@ pub fn fill_refused<K: Kind>(sketches: Listed<Private<K>>, rows: &mut BitRows)
     ensures bits { rows.new.items ≡ map (λ s. s.bits) sketches.items }
     ensures lengths { map (λ bits. length bits) rows.new.items ≡ map (λ s. s.room) sketches.items }
 {
-    for sketch in sketches.into_items() {
+    let count = sketches.len();
+    let mut rest = sketches.into_items().into_iter();
+    for _ in 0..count {
+        let Some(sketch) = rest.next() else {
+            unreachable!()
+        };
         rows.push(sketch.into_bits());
     }
 }
@@ -29,7 +34,7 @@ pub fn fill_counts(counts: &[u64], into: &mut Counts)
 
 /// The heavy keys in their order.
 pub fn fill_heavy(heavy: &Heavy, into: &mut Keys)
-    requires { (into.old.items ≡ []) × (heavy.now.limit ≤ into.old.room) }
+    requires { (into.old.items ≡ []) × (length heavy.now.keys ≤ into.old.room) }
     ensures { into.new.items ≡ heavy.now.keys }
 {
     for place in 0..heavy.len() {
