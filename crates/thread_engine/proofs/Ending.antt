@@ -90,6 +90,7 @@ module _ {K H : Type 0} (stands : H → ℤ → ℤ → Type 0) (r : Rules) (o :
   told_in : (w : ℕ) (c : (w < o.workers) ⊎ (o.workers ≤ w)) → (s : PrivateView H) → w < o.workers
       → HasToldAll stands r o w (get_or (map (λ (p : WorkerPart K H). p.sketch) workers) w s) (get_or (map (λ (p : WorkerPart K H). p.pass.sent) workers) w [])
       (get_or (map (λ (p : WorkerPart K H). p.pass.fulls) workers) w 0) (updates_by_rules r packets o w) (refused_in w c)
+  unfolding refused_in done
   told_in w (inl lt) s _ =
       let inside : w < length workers = omega (arith, lt, workers_len) in
       let own = own_told w lt in

@@ -55,9 +55,12 @@ pub fn settle<K: Kind, R: Wait>(
         writer.close(rt);
         return Err(NoMemory);
     }
-    if publish_rest(rt, &lanes, workers, outs, &mut spare, &mut writer).is_err() {
-        writer.close(rt);
-        return Err(NoMemory);
+    match publish_rest(rt, &lanes, workers, outs, &mut spare, &mut writer) {
+        Ok(()) => (),
+        Err(_) => {
+            writer.close(rt);
+            return Err(NoMemory);
+        }
     }
     gather_answers(
         rt,
