@@ -54,7 +54,7 @@ live_keys_few r shape limit least messages =
 
 module _ {H : Type 0} (stands : H → ℤ → ℤ → Type 0) (packets : List Packet) (o : Options) (lawful : IsLawful o) (small : All (λ p. p.amount < 2 ^ 32) packets)
     (sketches : List (PrivateView H)) (sents : List (List Push)) (fulls : List ℕ) (told : HaveToldAll stands (rules_in o) o packets sketches sents fulls) where
-  sketch_at : (w : ℕ) → w < o.workers → PrivateView H
+  pub sketch_at : (w : ℕ) → w < o.workers → PrivateView H
   sketch_at w lt = some_item sketches w (omega (arith, lt, told.sketches_len))
 
   pub its : (w : ℕ) (lt : w < o.workers) → HasToldAll stands (rules_in o) o w (get_or sketches w (sketch_at w lt)) (sent_by sents w) (get_or fulls w 0) (updates_by_options packets o w) (told.refused w)

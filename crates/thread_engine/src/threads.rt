@@ -75,5 +75,6 @@ pub fn run_threads<K: Kind, R: Threads + Wait + Sync, G: Gate>(
         &mut workers,
         &mut rest,
     );
-    settle(rt, packets, options, &keys, lanes, workers, rest, spare)
+    let ran = settle(rt, packets, options, &keys, lanes, workers, rest, spare)?;
+    Ok(ran)
 }
