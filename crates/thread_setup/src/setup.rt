@@ -47,6 +47,7 @@ pub fn set_up<K: Kind, R: Wait>(
     let hands = hands_of(rt, alloc, packets, options)?;
     let lists = answers_of(alloc, options, keys.len())?;
     let room = Listed::new(alloc, options.readers)?;
+    let least = options.least;
     let (writer, views) = make_views(
         rt,
         alloc,
@@ -54,7 +55,7 @@ pub fn set_up<K: Kind, R: Wait>(
         options.shape,
         options.workers,
         options.heavy,
-        options.least,
+        least,
     )?;
     let aggregator = Aggregator::new(writer, hands.outs, options.batch);
     Ok(Setup {

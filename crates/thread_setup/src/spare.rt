@@ -35,8 +35,9 @@ pub fn spare_of<K: Kind>(alloc: Global, options: &Options, keys: u32) -> Result<
     ensures { IfOk result (IsSpare options.now) }
 {
     let workers = options.workers;
+    let least = options.least;
     Ok(Spare {
-        state: State::new(alloc, options.shape, workers, options.heavy, options.least)?,
+        state: State::new(alloc, options.shape, workers, options.heavy, least)?,
         last: Answer::new(alloc, 0, 0, workers, keys)?,
         passes: Listed::new(alloc, workers)?,
         sketches: Listed::new(alloc, workers)?,

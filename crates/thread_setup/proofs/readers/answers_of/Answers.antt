@@ -1,0 +1,15 @@
+use Rattle.std.proofs.Common.{◌≡◌, ◌∙◌, ◌+◌, arith}
+use Rattle.thread_setup.proofs.Beginnings.{lists_more, lists_none}
+use Rattle.thread_setup.proofs.readers.answers_of.Goals as goal
+
+pub loop-count-init : goal.loop-count-init
+loop-count-init c = (lists_none c.args.options.now _ c.in_ok-lists.ensures.empty, c.in_ok-lists.ensures.room)
+
+pub loop-count-preserved : goal.loop-count-preserved
+loop-count-preserved c =
+    let o = c.args.options.now in
+    let h = c.loop-count.invariant in
+    let at : c.loop-count.count + (o.readers - 1 - c.loop-count.count) + 1 ≡ o.readers = omega (arith, c.loop-count-test.true) in (
+      lists_more o c.loop-count.count _ c.loop-count.lists.items c.push.new.self.items _ h.0 c.push.ensures.items at c.answers_of_reader.in-Ok.ensures,
+      c.push.ensures.room ∙ h.1,
+    )
