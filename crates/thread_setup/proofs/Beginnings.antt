@@ -42,6 +42,15 @@ all_before {A} P all xs x is h =
 pub len_more : {A : Type 0} (xs new : List A) (x : A) (n : ℕ) → length xs ≡ n → new ≡ xs ++ x ∷ [] → length new ≡ n + 1
 len_more xs new x n len is = ap length is ∙ length_push xs x ∙ ap (λ k. k + 1) len
 
+ends_more : (lanes lanes' : List LaneView) (outs outs' : List OutView) (l : LaneView) (e : OutView) → lanes' ≡ lanes ++ l ∷ [] → outs' ≡ outs ++ e ∷ [] → AreEnds lanes outs
+    → e.id ≡ l.id → AreEnds lanes' outs'
+ends_more lanes lanes' outs outs' l e is_l is_e ends here =
+    ap (map (λ (x : OutView). x.id)) is_e
+    ∙ map-append (λ (x : OutView). x.id) outs (e ∷ [])
+    ∙ ap₂ (λ xs i. xs ++ i ∷ []) ends here
+    ∙ sym (map-append (λ (x : LaneView). x.id) lanes (l ∷ []))
+    ∙ sym (ap (map (λ (x : LaneView). x.id)) is_l)
+
 module _ {K H : Type 0} (stands : H → ℤ → ℤ → Type 0) (r : Rules) (o : Options) (packets : List Packet) where
   ready_more : (lanes lanes' : List LaneView) (parts parts' : List (WorkerPart K H)) (l : LaneView) (p : WorkerPart K H) → length parts ≡ length lanes → lanes' ≡ lanes ++ l ∷ []
       → parts' ≡ parts ++ p ∷ [] → AreReady stands r o packets lanes parts → IsReady stands r o packets l p → AreReady stands r o packets lanes' parts'
@@ -55,15 +64,6 @@ module _ {K H : Type 0} (stands : H → ℤ → ℤ → Type 0) (r : Rules) (o :
       let last : pair (length lanes) l = λ e. subst (λ (z : WorkerPart K H). IsReady stands r o packets l z) (sym (late e)) here in
       let all = grown pair lanes lanes' (length lanes) l refl is_l each last in
       record { each = λ i a b lt. all i a (omega (arith, len_more lanes lanes' l (length lanes) refl is_l, lt)) b }
-
-  ends_more : (lanes lanes' : List LaneView) (outs outs' : List OutView) (l : LaneView) (e : OutView) → lanes' ≡ lanes ++ l ∷ [] → outs' ≡ outs ++ e ∷ [] → AreEnds lanes outs
-      → e.id ≡ l.id → AreEnds lanes' outs'
-  ends_more lanes lanes' outs outs' l e is_l is_e ends here =
-      ap (map (λ (x : OutView). x.id)) is_e
-      ∙ map-append (λ (x : OutView). x.id) outs (e ∷ [])
-      ∙ ap₂ (λ xs i. xs ++ i ∷ []) ends here
-      ∙ sym (map-append (λ (x : LaneView). x.id) lanes (l ∷ []))
-      ∙ sym (ap (map (λ (x : LaneView). x.id)) is_l)
 
   pub hands_none : (h : Hands K H) → h.lanes.items ≡ [] → h.workers.items ≡ [] → h.outs.items ≡ [] → AreHands stands r o packets 0 h
   hands_none h lanes workers outs = record {
@@ -157,3 +157,7 @@ module _ {K H : Type 0} where
         let workers : (get_or parts i p).view.layout.workers ≡ o.workers = ap (λ (l : Layout). l.workers) (h.pair.1 ∙ layout) in
         subst (λ (n : ℕ). All (HasRoomFor n (keys_of o)) (get_or parts i p).answers.items) (sym workers) h.room;
   }
+
+-- the views of a new pair
+pub all_first : (w : WriterView) (views : List ReaderView) → All (λ v. (v.book ≡ w.book) × (v.layout ≡ w.layout) × (v.known ≡ []) × (v.told ≡ [])) views → All (IsFirst w) views
+all_first w views h k d lt = let v = h k d lt in record { pair = (v.0, v.1); known = v.2 }

@@ -1,6 +1,5 @@
 //! The readers' parts, with their answers.
 ghost use Rattle.std.specs.Prelude.{◌≡◌, ◌<◌, ◌++◌, [], ◌∷◌, All, length, IfOk};
-ghost use Rattle.hash_rows.specs.Lawful.{IsLawful};
 ghost use Rattle.live_view.specs.Views.{WriterView};
 ghost use Rattle.push_history.specs.Journal.{keys_of};
 ghost use Rattle.thread_setup.specs.Answers.{AreLists, AreNew};

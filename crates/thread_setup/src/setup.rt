@@ -1,7 +1,8 @@
 //! What a run in threads begins with.
-ghost use Rattle.std.specs.Prelude.{◌≡◌, ◌<◌, ◌≤◌, ◌^◌, All, length, IfOk, OnOk};
+ghost use Rattle.std.specs.Prelude.{◌≡◌, ◌<◌, ◌≤◌, ◌^◌, [], All, length, IfOk, OnOk};
 ghost use Rattle.hash_rows.specs.Lawful.{IsLawful};
-ghost use Rattle.thread_setup.specs.Setups.{IsSetUp};
+ghost use Rattle.octo_engine.specs.Looks.{layout_in};
+ghost use Rattle.thread_setup.specs.Setups.{IsFirst, IsSetUp};
 
 use crate::hands::{Lanes, hands_of};
 use crate::readers::{answers_of, readers_of};
@@ -10,7 +11,7 @@ use aggregate::Aggregator;
 use flow_base::NoMemory;
 use hash_rows::{Keys, Kind, Options, Packet};
 use listed::Listed;
-use live_view::make_views;
+use live_view::{ViewWriter, Views, make_views};
 use octo_engine::asked_keys;
 use shares::amounts_fit;
 use std::alloc::Global;
@@ -47,16 +48,7 @@ pub fn set_up<K: Kind, R: Wait>(
     let hands = hands_of(rt, alloc, packets, options)?;
     let lists = answers_of(alloc, options, keys.len())?;
     let room = Listed::new(alloc, options.readers)?;
-    let least = options.least;
-    let (writer, views) = make_views(
-        rt,
-        alloc,
-        options.readers,
-        options.shape,
-        options.workers,
-        options.heavy,
-        least,
-    )?;
+    let (writer, views) = pair_of(rt, alloc, options)?;
     let aggregator = Aggregator::new(writer, hands.outs, options.batch);
     Ok(Setup {
         keys,
@@ -71,4 +63,29 @@ pub fn set_up<K: Kind, R: Wait>(
         },
         spare,
     })
+}
+
+// The published pair, with a view of each reader.
+fn pair_of<K: Kind, R: Wait>(
+    rt: &R,
+    alloc: Global,
+    options: &Options,
+) -> Result<(ViewWriter<K>, Views<K>), NoMemory>
+    requires { IsLawful options.now }
+    ensures lists { IfOk result (λ t. (t.0.published ≡ []) × (t.0.pending ≡ [])) }
+    ensures layout { IfOk result (λ t. t.0.layout ≡ layout_in options.now) }
+    ensures count { IfOk result (λ t. length t.1.items ≡ options.now.readers) }
+    ensures views { IfOk result (λ t. All (IsFirst t.0) t.1.items) }
+{
+    let _least = options.least;
+    let (writer, views) = make_views(
+        rt,
+        alloc,
+        options.readers,
+        options.shape,
+        options.workers,
+        options.heavy,
+        options.least,
+    )?;
+    Ok((writer, views))
 }

@@ -2,6 +2,8 @@
 ghost use Rattle.std.specs.Prelude.{◌≡◌, length, IfOk};
 ghost use Rattle.hash_rows.specs.Lawful.{IsLawful};
 ghost use Rattle.push_history.specs.Journal.{keys_of};
+ghost use Rattle.live_state.specs.Fold.{fresh_state};
+ghost use Rattle.octo_engine.specs.Looks.{layout_in};
 ghost use Rattle.thread_setup.specs.Setups.{IsSpare};
 
 use flow_base::NoMemory;
@@ -35,9 +37,8 @@ pub fn spare_of<K: Kind>(alloc: Global, options: &Options, keys: u32) -> Result<
     ensures { IfOk result (IsSpare options.now) }
 {
     let workers = options.workers;
-    let least = options.least;
     Ok(Spare {
-        state: State::new(alloc, options.shape, workers, options.heavy, least)?,
+        state: state_of(alloc, options)?,
         last: Answer::new(alloc, 0, 0, workers, keys)?,
         passes: Listed::new(alloc, workers)?,
         sketches: Listed::new(alloc, workers)?,
@@ -46,4 +47,19 @@ pub fn spare_of<K: Kind>(alloc: Global, options: &Options, keys: u32) -> Result<
         live: Listed::new(alloc, options.heavy)?,
         answers: Listed::new(alloc, options.readers * options.asks)?,
     })
+}
+
+// The state with no message.
+fn state_of<K: Kind>(alloc: Global, options: &Options) -> Result<State<K>, NoMemory>
+    requires { IsLawful options.now }
+    ensures { IfOk result (λ state. state ≡ fresh_state (layout_in options.now)) }
+{
+    let _least = options.least;
+    State::new(
+        alloc,
+        options.shape,
+        options.workers,
+        options.heavy,
+        options.least,
+    )
 }

@@ -7,7 +7,7 @@ pub loop-worker-init : goal.loop-worker-init
 loop-worker-init g c =
     let e = c.in_ok-hands.ensures in
     record {
-      hands = hands_none g.K.Kind.stands g.K.Kind.rules c.args.options.now c.args.packets.now c.in_ok-hands.value e.lanes.0 e.workers.0 e.outs.0;
+      hands = hands_none g.K.Kind.stands g.K.Kind.rules c.args.options.now c.args.packets.now c.in_ok-hands.hands e.lanes.0 e.workers.0 e.outs.0;
       lanes = e.lanes.1;
       workers = e.workers.1;
       outs = e.outs.1;

@@ -1,7 +1,7 @@
-use Rattle.std.proofs.Common.{◌≡◌, ◌∙◌, ◌<◌, ◌+◌, ap, arith, length, sym, subst}
+use Rattle.std.proofs.Common.{rules, ◌≡◌, ◌∙◌, ◌<◌, ◌+◌, ap, arith, length, refl, sym, subst}
 use Rattle.listed.specs.Listed.{Listed}
 use Rattle.octo_engine.proofs.Beginning.{grown}
-use Rattle.thread_setup.specs.Setups.{IsFirst, IsReader}
+use Rattle.thread_setup.specs.Setups.{AreReaders, IsFirst, IsReader}
 use Rattle.thread_setup.proofs.Beginnings.{all_before, is_reader, len_more, lists_before}
 use Rattle.thread_setup.proofs.readers.readers_of.Goals as goal
 
@@ -28,3 +28,10 @@ loop-preserved g c =
             grown (λ q p. IsReader o w q p) c.loop.parts.items c.push.new.self.items n _ h.parts c.push.ensures.items was.1 (is_reader o w n _ split.1 own.1),
           );
     }
+
+pub returns-clause-readers : goal.returns-clause-readers
+returns-clause-readers g c = λ w first.
+    let o = c.args.options.now in
+    let h = c.loop.invariant in
+    let all : c.loop.counter ≡ o.readers = search rules in
+    subst (λ n. AreReaders o w n c.into_items.result.items) all (subst (λ parts. AreReaders o w c.loop.counter parts) (sym c.into_items.ensures) (h.readers w first).1)
