@@ -1,5 +1,5 @@
 -- One worker more, one answer more, and one reader more.
-use Rattle.std.proofs.Common.{◌≡◌, ◌<◌, ◌≤◌, ℕ, ℤ, ◌+◌, List, [], ◌∷◌, ◌++◌, length, map, get_or, All, refl, sym, ap, ap₂, ◌∙◌, subst, arith}
+use Rattle.std.proofs.Common.{◌≡◌, ◌<◌, ℕ, ℤ, ◌+◌, List, [], ◌∷◌, ◌++◌, length, map, get_or, All, refl, sym, ap, ap₂, ◌∙◌, subst, arith}
 use Rattle.std.specs.Prelude.{pos, replicate}
 use Rattle.std.proofs.lemmas.List.{get_or_append_left, get_or_push, length-replicate, length_push, map-append}
 use Rattle.std.proofs.lemmas.List.Elements.{All-nil, All-push}

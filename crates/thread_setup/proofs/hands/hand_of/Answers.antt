@@ -1,4 +1,4 @@
-use Rattle.std.proofs.Common.{◌∙◌, ◌*◌, ap, arith, length}
+use Rattle.std.proofs.Common.{◌∙◌, ap, arith, length}
 use Rattle.shares.proofs.Sharing.{share_few}
 use Rattle.thread_setup.proofs.hands.hand_of.Goals as goal
 

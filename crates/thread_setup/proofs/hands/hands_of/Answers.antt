@@ -1,4 +1,4 @@
-use Rattle.std.proofs.Common.{◌≡◌, ◌∙◌, length, arith}
+use Rattle.std.proofs.Common.{◌∙◌, arith}
 use Rattle.aggregate.proofs.Kept.{ends_len}
 use Rattle.thread_setup.proofs.Beginnings.{hands_more, hands_none}
 use Rattle.thread_setup.proofs.hands.hands_of.Goals as goal

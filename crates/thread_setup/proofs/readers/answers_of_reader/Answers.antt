@@ -1,4 +1,4 @@
-use Rattle.std.proofs.Common.{◌≡◌, ◌∙◌}
+use Rattle.std.proofs.Common.{◌∙◌}
 use Rattle.push_history.specs.Journal.{keys_of}
 use Rattle.thread_setup.proofs.Beginnings.{has_room, news_more, news_none}
 use Rattle.thread_setup.proofs.readers.answers_of_reader.Goals as goal

@@ -1,5 +1,4 @@
-use Rattle.std.proofs.Common.{rules, ◌≡◌, ◌∙◌, ◌<◌, ◌+◌, ap, arith, length, refl, sym, subst}
-use Rattle.listed.specs.Listed.{Listed}
+use Rattle.std.proofs.Common.{rules, ◌≡◌, ◌∙◌, arith, refl, sym, subst}
 use Rattle.octo_engine.proofs.Beginning.{grown}
 use Rattle.thread_setup.specs.Setups.{AreReaders, IsFirst, IsReader}
 use Rattle.thread_setup.proofs.Beginnings.{all_before, is_reader, len_more, lists_before}

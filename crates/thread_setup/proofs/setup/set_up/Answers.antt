@@ -1,4 +1,4 @@
-use Rattle.std.proofs.Common.{◌≡◌, ◌≤◌, ◌∙◌, List, ap, arith, length, get_or, refl, subst, sym}
+use Rattle.std.proofs.Common.{◌≡◌, ◌∙◌, ap, arith, length, get_or, refl, subst, sym}
 use Rattle.aggregate.proofs.Kept.{ends_len}
 use Rattle.aggregate.specs.Takens.{AreEnds}
 use Rattle.live_view.specs.Views.{WriterView}
