@@ -74,7 +74,8 @@ fn add_hand<K: Kind>(hands: &mut Hands<K>, hand: Hand<K>)
     requires workers { length hands.old.workers.items < hands.old.workers.room }
     requires outs { length hands.old.outs.items < hands.old.outs.room }
     ensures lanes { (hands.new.lanes.items ≡ hands.old.lanes.items ++ hand.lane ∷ []) × (hands.new.lanes.room ≡ hands.old.lanes.room) }
-    ensures workers { (hands.new.workers.items ≡ hands.old.workers.items ++ hand.worker ∷ []) × (hands.new.workers.room ≡ hands.old.workers.room) }
+    ensures workers { (hands.new.workers.items ≡ hands.old.workers.items ++ hand.worker ∷ [])
+        × (hands.new.workers.room ≡ hands.old.workers.room) }
     ensures outs { (hands.new.outs.items ≡ hands.old.outs.items ++ hand.out ∷ []) × (hands.new.outs.room ≡ hands.old.outs.room) }
 {
     hands.lanes.push(hand.lane);
