@@ -1,0 +1,7 @@
+mod Answering
+mod Concluding
+mod Ending
+mod Joining
+mod Leaving
+mod Outcomes
+mod Publishing

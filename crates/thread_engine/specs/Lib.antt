@@ -1,0 +1,5 @@
+pub mod Ended
+pub mod Left
+pub mod Readers
+pub mod Residues
+pub mod Tellings

@@ -1,0 +1,80 @@
+//! A run in threads.
+ghost use Rattle.std.specs.Prelude.{◌≡◌, ◌≤◌, All, length, IfOk};
+ghost use Rattle.hash_rows.specs.Lawful.{IsLawful};
+ghost use Rattle.hash_rows.specs.Sequential.{sequential_table};
+ghost use Rattle.hash_rows.specs.declared.options.Mode.TheVariants.{Threads as InThreads};
+ghost use Rattle.hash_rows.specs.declared.options.Sketch.TheVariants.{CountMin};
+ghost use Rattle.push_history.specs.Journal.{journal_in};
+ghost use Rattle.push_history.specs.LawfulJournal.{LawfulJournal};
+ghost use Rattle.round_law.specs.Outcome.{IsWhole};
+ghost use Rattle.thread_ends.specs.Ends.{both_sents};
+ghost use Rattle.thread_law.specs.Ran.{HasRan, MatchesItsFront, ShowsNear};
+ghost use Rattle.thread_engine.specs.Left.{AreDrained};
+
+use crate::settling::settle;
+use flow_base::NoMemory;
+use hash_rows::{Kind, Options, Packet};
+use live_view::ViewWriter;
+use octo_engine::Settled;
+use std::alloc::Global;
+use std::sync::Wait;
+use std::thread::Threads;
+use thread_run::run_beside;
+use thread_setup::{BothPasses, Lanes, Setup, set_up};
+use thread_work::Gate;
+
+/// What a run in threads leaves. Its holder closes the writer.
+pub struct Ran<K: Kind> {
+    pub settled: Settled<K>,
+    /// The lane of each worker.
+    pub lanes: Lanes,
+    /// Both ends of each lane, which is drained.
+    pub passes: BothPasses,
+    pub writer: ViewWriter<K>,
+}
+
+/// Counts the packets in threads: workers, the aggregator and the readers go at their own pace,
+/// and answers come while workers count. All memory but that of appended messages is taken before
+/// the first worker starts. Where no thread can be had, a run whose pushes wait may not return.
+pub fn run_threads<K: Kind, R: Threads + Wait + Sync, G: Gate>(
+    rt: &R,
+    alloc: Global,
+    packets: &[Packet],
+    options: &Options,
+    gate: &G,
+) -> Result<Ran<K>, NoMemory>
+    requires lawful { IsLawful options.now }
+    requires sketch { options.now.sketch ≡ K.sketch }
+    requires mode { options.now.mode ≡ InThreads }
+    requires packets { length packets.now ≤ 16777216 }
+    ensures drained { IfOk result (λ r. AreDrained options.now r.lanes.items r.passes.items r.settled.refused.items) }
+    ensures ran { IfOk result (λ r. HasRan packets.now options.now (both_sents r.passes.items) r.writer.published
+        r.settled.refused.items r.settled.pushes.items r.settled.answers.items r.settled.live.items r.settled.missed) }
+    ensures journal { IfOk result (λ r. LawfulJournal packets.now options.now
+        (journal_in options.now r.settled.refused.items r.settled.pushes.items r.settled.answers.items r.settled.live.items r.settled.missed)) }
+    ensures whole { IfOk result (λ r. IsWhole options.now r.settled.refused.items r.settled.pushes.items r.settled.answers.items) }
+    ensures upto { IfOk result (λ r. All (MatchesItsFront (both_sents r.passes.items)) r.settled.answers.items) }
+    ensures bracket { IfOk result (λ r. options.now.sketch ≡ CountMin
+        → All (ShowsNear packets.now options.now (both_sents r.passes.items) r.settled.refused.items) r.settled.answers.items) }
+    ensures table { IfOk result (λ r. r.settled.table ≡ sequential_table K.rules options.now.shape packets.now) }
+{
+    let Setup {
+        keys,
+        lanes,
+        mut workers,
+        mut rest,
+        spare,
+    } = set_up(rt, alloc, packets, options)?;
+    run_beside(
+        rt,
+        packets,
+        options,
+        keys.as_slice(),
+        lanes.as_slice(),
+        gate,
+        &mut workers,
+        &mut rest,
+    );
+    let ran = settle(rt, packets, options, &keys, lanes, workers, rest, spare)?;
+    Ok(ran)
+}
