@@ -1,5 +1,4 @@
 ghost use Rattle.std.specs.Prelude.{◌≡◌, ◌≤◌, true};
-ghost use Rattle.hash_rows.specs.Rules.{rules_of};
 ghost use Rattle.hash_rows.specs.Shapes.{size_of};
 ghost use Rattle.hash_rows.specs.Sketches.{is_rank};
 
