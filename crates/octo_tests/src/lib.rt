@@ -1,6 +1,10 @@
 //! Worked runs of octo, from words and bytes to what stands on its outputs.
 #![tactic(auto)]
 
+mod headline;
+
+pub use headline::whole_run;
+
 #[cfg(test)]
 mod bytes;
 #[cfg(test)]

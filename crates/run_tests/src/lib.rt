@@ -1,4 +1,4 @@
-//! Worked runs below the program: lanes, a published pair with readers in threads, the event
+//! Worked runs below the program: lanes, sweeps, a published pair with readers in threads, the event
 //! core, and runs in rounds.
 #![tactic(auto)]
 
@@ -8,5 +8,7 @@ mod core_events;
 mod lanes;
 #[cfg(test)]
 mod rounds;
+#[cfg(test)]
+mod sweeps;
 #[cfg(test)]
 mod views;

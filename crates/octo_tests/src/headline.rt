@@ -1,0 +1,36 @@
+ghost use Rattle.std.specs.Prelude.{◌≡◌, ℕ, ◌++◌, List, IfOk, string_bytes, map};
+ghost use Rattle.capture_load.specs.Generated.{generated};
+ghost use Rattle.hash_rows.specs.declared.options.Mode.{Mode};
+ghost use Rattle.hash_rows.specs.declared.options.Options.{Options};
+ghost use Rattle.flow_base.specs.declared.status.Status.{Status};
+ghost use Rattle.octo_run.specs.Runs.{IsRunText};
+ghost use Rattle.words.specs.Options.{Gives};
+ghost use Rattle.words.specs.declared.command.Command.{Command};
+
+use flow_base::{MemSink, MemSource, NoMemory, Status};
+use octo_run::{octo, one_text};
+use std::alloc::Global;
+use std::thread::Threads;
+
+/// What the top call's contract alone says to a caller whose source and output tell their bytes:
+/// where the run is done, the output is what it was and, behind it, the one text of these bytes or,
+/// with `load`, of the generated ones.
+pub fn whole_run<R: Threads + Sync>(
+    rt: &R,
+    alloc: Global,
+    words: &[String],
+    bytes: &[u8],
+    out: &mut MemSink,
+    err: &mut MemSink,
+) -> Result<Status, NoMemory>
+    ensures run { IfOk result (λ status. status ≡ Status.Done
+        → (o : Options) → Gives (map string_bytes words.now) (Command.Run o) → o.mode ≡ Mode.Rounds
+        → (text : List ℕ) → IsRunText o bytes.now text → out.new.held ≡ out.old.held ++ text) }
+    ensures load { IfOk result (λ status. status ≡ Status.Done
+        → (n k : ℕ) → (o : Options) → Gives (map string_bytes words.now) (Command.Load n k o) → o.mode ≡ Mode.Rounds
+        → (text : List ℕ) → IsRunText o (generated n k) text → out.new.held ≡ out.old.held ++ text) }
+{
+    one_text();
+    let mut source = MemSource::new(alloc, bytes, 4096, &[])?;
+    Ok(octo(rt, alloc, words, &mut source, out, err))
+}
