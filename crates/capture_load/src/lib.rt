@@ -12,5 +12,5 @@ mod steps;
 
 pub use capture::{Capture, LoadStop, Refusal};
 pub use generated::GenSource;
-pub use laws::{one_outcome, refusal_stays};
+pub use laws::{generated_whole, one_outcome, refusal_stays};
 pub use load::load_capture;
