@@ -1,5 +1,5 @@
 -- What a command reads.
-use Rattle.std.proofs.Common.{◌≡◌, ◌∙◌, ◌⊎◌, inl, inr, refl, sym, ap, subst, append-nil, List, [], ℕ, ◌++◌, ◌≤◌}
+use Rattle.std.proofs.Common.{◌≡◌, ◌∙◌, inl, inr, refl, sym, ap, subst, append-nil, List, [], ℕ, ◌++◌, ◌≤◌}
 use Rattle.std.specs.Prelude.{Option, Some, None}
 use Rattle.flow_base.specs.Flow.{behind, Given}
 use Rattle.capture_load.specs.Capture.{CaptureOf, Refused, RefusesNext}

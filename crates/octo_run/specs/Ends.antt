@@ -1,7 +1,7 @@
 -- How a command that reads a capture may end.
-use Rattle.std.specs.Prelude.{◌≡◌, ◌≢◌, ◌⊎◌, ℕ, ◌++◌, List, [], Option}
+use Rattle.std.specs.Prelude.{◌≡◌, ◌≢◌, ◌⊎◌, ℕ, List, [], Option}
 use Rattle.flow_base.specs.Causes.{Rose}
-use Rattle.flow_base.specs.Flow.{behind, grown, TookFront}
+use Rattle.flow_base.specs.Flow.{grown, TookFront}
 use Rattle.flow_base.specs.declared.status.Status.{Status}
 use Rattle.flow_base.specs.declared.status.Status.TheVariants.{Done, Usage, ReadFault, WriteFault, BadCapture, TooMany, Differs}
 use Rattle.capture_load.specs.Capture.{RefusesNext}
