@@ -13,22 +13,22 @@ use Rattle.capture_load.specs.declared.capture.Refusal.{Refusal}
 use Rattle.capture_load.proofs.Ends.{capture_excludes}
 
 -- record i: its head, and its frame of 42 bytes
-made : ℕ → ℕ → Record
+abbrev made : ℕ → ℕ → Record
 made start i = record {
   head = record_header i (drawn start i);
   bytes = ethernet_header ++ ip_header (drawn start i) ++ port_bytes (drawn start i);
 }
 
 is_record : (start i : ℕ) → IsRecord Little (made start i)
-unfolding made record_header ip_header port_bytes number_at
+unfolding record_header ip_header port_bytes number_at
 is_record start i = record { head = refl; bytes = refl; small = omega arith }
 
 made_text : (start i : ℕ) → generated_record start i ≡ text (made start i)
-unfolding made generated_record
+unfolding generated_record record_header port_bytes
 made_text start i = refl
 
 -- the records from a number on
-made_from : ℕ → ℕ → ℕ → List Record
+abbrev made_from : ℕ → ℕ → ℕ → List Record
 made_from start from zero = []
 made_from start from (suc count) = made start from ∷ made_from start (from + 1) count
 
@@ -56,7 +56,9 @@ generated_whole records start few =
     let made' = made_from start 0 records in (
       map (frame_of Little) made',
       length-map made' (frame_of Little) ∙ made_length start 0 records,
-      inr ((λ is. let e : 0xd4 ≡ 0x0a = cc in absurd (omega (arith, e))), (
+      inr (
+        (λ is. let e : ◌≡◌ {A = ℕ} 0xd4 0x0a = cc in absurd (omega (arith, e))),
+        (
           [],
           record {
             order = Little;
@@ -73,7 +75,8 @@ generated_whole records start few =
             frames_are = refl;
           },
           refl,
-      )),
+        ),
+      ),
     )
 
 -- so nothing refuses them
