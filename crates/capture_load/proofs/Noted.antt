@@ -1,5 +1,5 @@
 -- One frame more, of those that were read.
-use Rattle.std.proofs.Common.{◌≡◌, ℕ, ◌+◌, List, [], ◌∷◌, ◌++◌, Bool, true, false, MatchBool, refl, sym, ap, ◌∙◌, subst, arith, add-zero}
+use Rattle.std.proofs.Common.{◌≡◌, ℕ, ◌+◌, List, [], ◌∷◌, ◌++◌, Bool, true, false, MatchBool, refl, sym, ap, ◌∙◌, subst, arith, add-zero, length, length-append}
 use Rattle.std.specs.Prelude.{Some, Result, Ok, Err, count_by, cond, OnOk, not}
 use Rattle.std.proofs.lemmas.List.{append-nil}
 use Rattle.std.proofs.lemmas.List.Elements.{filter_map-append}
@@ -12,12 +12,14 @@ use Rattle.hash_rows.specs.declared.options.Amount.{Amount}
 use Rattle.hash_rows.specs.declared.shape.Packet.{Packet}
 use Rattle.hash_rows.specs.declared.shape.Tallies.{Tallies}
 use Rattle.pcap_read.specs.Records.{Framed}
-use Rattle.pcap_read.specs.Place.{Stands}
+use Rattle.pcap_read.specs.Place.{Place, Stands}
 use Rattle.pcap_read.specs.Takes.{TakesWhole}
-use Rattle.capture_load.specs.Loads.{Loads}
-use Rattle.capture_load.specs.Notes.{tallied}
+use Rattle.pcapng_read.specs.Takes.{TakesPacket}
+use Rattle.pcapng_read.specs.View.{NgReaderView, Stands as NgStands}
+use Rattle.capture_load.specs.Loads.{Keeps, NgNoted, PcapNoted}
+use Rattle.capture_load.specs.Notes.{number_of, tallied}
 use Rattle.capture_load.specs.Packets.{packets_of, packet_in, amount_of, tallies_of, is_short, is_not_ip, is_bad_ip, is_tagged}
-use Rattle.capture_load.specs.declared.loading.Loading.{Loading}
+use Rattle.capture_load.specs.declared.notes.Notes.{Notes}
 
 pub packets_append : (amount : Amount) (fs gs : List Framed) → packets_of amount (fs ++ gs) ≡ packets_of amount fs ++ packets_of amount gs
 unfolding packets_of
@@ -60,34 +62,75 @@ tallies_push fs f =
     ∙ ap (λ n. make (count_by (λ x. is_short (k x)) fs + cond (is_short (k f)) 1 0) (count_by (λ x. is_not_ip (k x)) fs + cond (is_not_ip (k f)) 1 0) (count_by (λ x. is_bad_ip (k x)) fs + cond (is_bad_ip (k f)) 1 0) n) (count_push (λ x. is_tagged (k x)) fs f)
     ∙ tallied_by (tallies_of fs) (key_of f.bytes)
 
--- no record became whole
-pub after_part : (l : Loading) (bytes : List ℕ) (frames : List Framed) → Stands l.reader bytes frames → l.packets.items ≡ packets_of l.amount frames → l.skipped ≡ tallies_of frames
-    → (more : List Framed) × Loads l bytes (frames ++ more)
-after_part l bytes frames stands packets skipped =
-    ([], subst (λ (fs : List Framed). Loads l bytes fs) (sym (append-nil frames)) (record { stands = stands; packets = packets; skipped = skipped }))
+count_cons : (p : Framed → Bool) (f : Framed) (fs : List Framed) → count_by p (f ∷ fs) ≡ cond (p f) 1 0 + count_by p fs
+count_cons p f fs = sum_by-cons (λ x. cond (p x) 1 0) f fs
+
+one_noted : (amount : Amount) (f : Framed) (k : Result FlowKey Skip) → k ≡ key_of f.bytes
+    → cond (is_short k) 1 0 + cond (is_not_ip k) 1 0 + cond (is_bad_ip k) 1 0 + cond (is_tagged k) 1 0 + length (packets_of amount (f ∷ [])) ≡ 1
+one_noted amount f (Ok key) is = omega (arith, ap length (one_packet amount f key is))
+one_noted amount f (Err ShortFrame) is = omega (arith, ap length (no_packet amount f ShortFrame is))
+one_noted amount f (Err (NotIp ethertype)) is = omega (arith, ap length (no_packet amount f (NotIp ethertype) is))
+one_noted amount f (Err BadIp) is = omega (arith, ap length (no_packet amount f BadIp is))
+one_noted amount f (Err ManyTags) is = omega (arith, ap length (no_packet amount f ManyTags is))
+
+-- each frame has a packet or is skipped
+all_noted : (amount : Amount) (fs : List Framed)
+    → count_by (λ f. is_short (key_of f.bytes)) fs + count_by (λ f. is_not_ip (key_of f.bytes)) fs + count_by (λ f. is_bad_ip (key_of f.bytes)) fs + count_by (λ f. is_tagged (key_of f.bytes)) fs
+    + length (packets_of amount fs) ≡ length fs
+unfolding packets_of
+all_noted amount [] = refl
+all_noted amount (f ∷ fs) =
+    omega (
+      arith,
+      count_cons (λ f. is_short (key_of f.bytes)) f fs,
+      count_cons (λ f. is_not_ip (key_of f.bytes)) f fs,
+      count_cons (λ f. is_bad_ip (key_of f.bytes)) f fs,
+      count_cons (λ f. is_tagged (key_of f.bytes)) f fs,
+      ap length (packets_append amount (f ∷ []) fs),
+      length-append (packets_of amount (f ∷ [])) (packets_of amount fs),
+      one_noted amount f (key_of f.bytes) refl,
+      all_noted amount fs,
+    )
+
+-- as many frames are noted as there were
+pub number_noted : (notes : Notes) (frames : List Framed) → Keeps notes frames → number_of notes ≡ length frames
+unfolding tallies_of
+number_noted notes frames keeps =
+    let sum : Tallies → ℕ → ℕ = λ t n. t.short + t.not_ip + t.bad_ip + t.tags + n in
+    ap (λ t. sum t (length notes.packets.items)) keeps.skipped ∙ ap (λ (ps : List Packet). sum (tallies_of frames) (length ps)) keeps.packets ∙ all_noted notes.amount frames
 
 -- one frame more was noted
-pub after_frame : (old l : Loading) (bytes before : List ℕ) (frames : List Framed) (f : Framed) → Loads old before frames → Stands l.reader bytes (frames ++ f ∷ [])
-    → l.amount ≡ old.amount → l.packets.items ≡ old.packets.items ++ packets_of old.amount (f ∷ []) → l.skipped ≡ tallied old.skipped (key_of f.bytes)
-    → (more : List Framed) × Loads l bytes (frames ++ more)
-after_frame old l bytes before frames f loads stands amount packets skipped = (
-  f ∷ [],
-  record {
-    stands = stands;
-    packets = packets ∙ ap (λ (ps : List Packet). ps ++ packets_of old.amount (f ∷ [])) loads.packets ∙ sym (packets_append old.amount frames (f ∷ []))
-        ∙ ap (λ a. packets_of a (frames ++ f ∷ [])) (sym amount);
-    skipped = skipped ∙ ap (λ t. tallied t (key_of f.bytes)) loads.skipped ∙ sym (tallies_push frames f);
-  },
-)
+pub keeps_more : (old new : Notes) (frames : List Framed) (f : Framed) → Keeps old frames → new.amount ≡ old.amount
+    → new.packets.items ≡ old.packets.items ++ packets_of old.amount (f ∷ []) → new.skipped ≡ tallied old.skipped (key_of f.bytes) → Keeps new (frames ++ f ∷ [])
+keeps_more old new frames f keeps amount packets skipped = record {
+  packets = packets ∙ ap (λ (ps : List Packet). ps ++ packets_of old.amount (f ∷ [])) keeps.packets ∙ sym (packets_append old.amount frames (f ∷ []))
+      ∙ ap (λ a. packets_of a (frames ++ f ∷ [])) (sym amount);
+  skipped = skipped ∙ ap (λ t. tallied t (key_of f.bytes)) keeps.skipped ∙ sym (tallies_push frames f);
+}
 
--- one record became whole, and was noted
-pub after_whole : (old l : Loading) (bytes before : List ℕ) (frames : List Framed) (f : Framed) → Loads old before frames → TakesWhole l.reader bytes frames → l.reader.lent ≡ Some f
-    → l.amount ≡ old.amount → l.packets.items ≡ old.packets.items ++ packets_of old.amount (f ∷ []) → l.skipped ≡ tallied old.skipped (key_of f.bytes)
-    → (more : List Framed) × Loads l bytes (frames ++ more)
-after_whole old l bytes before frames f loads whole lent amount packets skipped =
+-- the record that became whole is the one that is lent
+pub pcap_whole : (reader : Place) (bytes : List ℕ) (frames : List Framed) (f : Framed) → TakesWhole reader bytes frames → reader.lent ≡ Some f → Stands reader bytes (frames ++ f ∷ [])
+pcap_whole reader bytes frames f whole lent =
     let both : Some whole.next ≡ Some f = sym whole.lent ∙ lent in
     let next : whole.next ≡ f = cc in
-    after_frame old l bytes before frames f loads (subst (λ (g : Framed). Stands l.reader bytes (frames ++ g ∷ [])) next whole.stands) amount packets skipped
+    subst (λ (g : Framed). Stands reader bytes (frames ++ g ∷ [])) next whole.stands
+
+pub ng_whole : (reader : NgReaderView) (bytes : List ℕ) (frames : List Framed) (f : Framed) → TakesPacket reader bytes frames → reader.lent ≡ Some f → NgStands reader bytes (frames ++ f ∷ [])
+ng_whole reader bytes frames f whole lent =
+    let both : Some whole.next ≡ Some f = sym whole.lent ∙ lent in
+    let next : whole.next ≡ f = cc in
+    subst (λ (g : Framed). NgStands reader bytes (frames ++ g ∷ [])) next whole.stands
+
+-- no record became whole
+pub pcap_part : (reader : Place) (notes : Notes) (bytes : List ℕ) (frames : List Framed) → Stands reader bytes frames → Keeps notes frames
+    → (more : List Framed) × PcapNoted reader notes bytes (frames ++ more)
+pcap_part reader notes bytes frames stands keeps =
+    ([], subst (λ (fs : List Framed). PcapNoted reader notes bytes fs) (sym (append-nil frames)) (record { stands = stands; keeps = keeps }))
+
+pub ng_part : (reader : NgReaderView) (notes : Notes) (bytes : List ℕ) (frames : List Framed) → NgStands reader bytes frames → Keeps notes frames
+    → (more : List Framed) × NgNoted reader notes bytes (frames ++ more)
+ng_part reader notes bytes frames stands keeps =
+    ([], subst (λ (fs : List Framed). NgNoted reader notes bytes fs) (sym (append-nil frames)) (record { stands = stands; keeps = keeps }))
 
 pub when_not : (A B : Type 0) (b : Bool) → not b ≡ true → MatchBool b A B → B
 when_not A B true is h = absurd (let e : false ≡ true = is in cc)

@@ -1,23 +1,32 @@
 -- What is loaded of the bytes that a source gives.
-use Rattle.std.specs.Prelude.{◌≡◌, ◌≤◌, ◌⊎◌, ◌+◌, ℕ, List, [], length}
+use Rattle.std.specs.Prelude.{◌≡◌, ◌<◌, ◌≤◌, ◌⊎◌, ◌++◌, ℕ, List, [], length, take, Result, Ok, Err}
 use Rattle.pcap_read.specs.Records.{Framed}
-use Rattle.pcap_read.specs.Capture.{CaptureOf, RefusesNext, Whole, Refused}
-use Rattle.pcap_read.specs.Place.{Stands}
-use Rattle.pcap_read.specs.declared.bad.Bad.{Bad}
+use Rattle.pcap_read.specs.Capture.{RefusesNext as PcapRefusesNext}
+use Rattle.pcap_read.specs.Place.{Place, Stands}
+use Rattle.pcapng_read.specs.Capture.{RefusesNext as NgRefusesNext}
+use Rattle.pcapng_read.specs.Takes.{taken_by, most_bytes as most_of}
+use Rattle.pcapng_read.specs.View.{NgReaderView, Stands as NgStands}
 use Rattle.hash_rows.specs.declared.options.Amount.{Amount}
+use Rattle.capture_load.specs.Capture.{CaptureOf, IsNg, RefusesNext, Refused, Whole, ng_magic}
+use Rattle.capture_load.specs.Notes.{number_of}
 use Rattle.capture_load.specs.Packets.{packets_of, tallies_of}
 use Rattle.capture_load.specs.declared.capture.Capture.{Capture}
+use Rattle.capture_load.specs.declared.capture.Refusal.{Refusal}
+use Rattle.capture_load.specs.declared.capture.Refusal.TheVariants.{Pcap as PcapRefusal, Ng as NgRefusal}
 use Rattle.capture_load.specs.declared.capture.LoadStop.{LoadStop}
-use Rattle.capture_load.specs.declared.capture.LoadStop.TheVariants.{ReadFault, Bad as BadStop, NoMemory}
+use Rattle.capture_load.specs.declared.capture.LoadStop.TheVariants.{ReadFault, Bad as BadStop, Ng as NgStop, NoMemory}
+use Rattle.capture_load.specs.declared.format.Format.{Format}
+use Rattle.capture_load.specs.declared.format.Format.TheVariants.{Open, Pcap, Ng}
 use Rattle.capture_load.specs.declared.loading.Loading.{Loading}
+use Rattle.capture_load.specs.declared.notes.Notes.{Notes}
 
--- the greatest number of records
+-- the greatest number of records, of packet blocks, and of other blocks
 abbrev pub record_limit : ℕ
 record_limit = 16777216
 
--- the bytes given hold this refusal; that of a header which isn't whole stands at the end of input alone
-abbrev pub HoldsRefusal : List ℕ → List ℕ → Bad → Type 0
-HoldsRefusal given rest bad = ((frames : List Framed) × RefusesNext record_limit given frames bad) ⊎ ((rest ≡ []) × CaptureOf record_limit given (Refused bad))
+-- the bytes given hold this refusal; one of a beginning that isn't whole stands at the end of input alone
+abbrev pub HoldsRefusal : List ℕ → List ℕ → Refusal → Type 0
+HoldsRefusal given rest refusal = ((frames : List Framed) × RefusesNext record_limit given frames refusal) ⊎ ((rest ≡ []) × CaptureOf record_limit given (Refused refusal))
 
 -- the bytes are a capture, and this is what was loaded of it
 pub record IsLoaded (amount : Amount) (bytes : List ℕ) (capture : Capture) : Type 0 where
@@ -27,26 +36,82 @@ pub record IsLoaded (amount : Amount) (bytes : List ℕ) (capture : Capture) : T
   pub records : capture.records ≡ length frames
   pub skipped : capture.skipped ≡ tallies_of frames
 
--- the reader has taken these bytes and lent these frames, whose packets are kept
-pub record Loads (loading : Loading) (bytes : List ℕ) (frames : List Framed) : Type 0 where
-  pub stands : Stands loading.reader bytes frames
-  pub packets : loading.packets.items ≡ packets_of loading.amount frames
-  pub skipped : loading.skipped ≡ tallies_of frames
+-- the packets of these frames are kept, and the others are counted
+pub record Keeps (notes : Notes) (frames : List Framed) : Type 0 where
+  pub packets : notes.packets.items ≡ packets_of notes.amount frames
+  pub skipped : notes.skipped ≡ tallies_of frames
 
--- as many packets and skipped records as whole records
-pub record Counts (loading : Loading) : Type 0 where
-  pub limit : loading.reader.limit ≡ record_limit
-  pub sum : loading.skipped.short + loading.skipped.not_ip + loading.skipped.bad_ip + loading.skipped.tags + length loading.packets.items ≡ loading.reader.count
-  pub few : loading.reader.count ≤ record_limit
+-- a reader has taken these bytes, and the frames that it lent are noted
+pub record PcapNoted (reader : Place) (notes : Notes) (bytes : List ℕ) (frames : List Framed) : Type 0 where
+  pub stands : Stands reader bytes frames
+  pub keeps : Keeps notes frames
+
+pub record NgNoted (reader : NgReaderView) (notes : Notes) (bytes : List ℕ) (frames : List Framed) : Type 0 where
+  pub stands : NgStands reader bytes frames
+  pub keeps : Keeps notes frames
+
+-- whatever follows, the capture isn't pcapng
+abbrev pub IsOther : List ℕ → Type 0
+IsOther bytes = (more : List ℕ) → IsNg (bytes ++ more) → ⊥
+
+-- these bytes have come, and these frames were lent
+abbrev pub StandsIn : Format → List ℕ → List Framed → Type 0
+StandsIn (Open matched) bytes frames = (bytes ≡ take matched ng_magic) × (frames ≡ [])
+StandsIn (Pcap reader) bytes frames = IsOther bytes × Stands reader bytes frames
+StandsIn (Ng reader) bytes frames = IsNg bytes × NgStands reader bytes frames
+
+-- the same, and the frames are noted
+pub record Loads (loading : Loading) (bytes : List ℕ) (frames : List Framed) : Type 0 where
+  pub stands : StandsIn loading.format bytes frames
+  pub keeps : Keeps loading.notes frames
+
+-- as many frames were noted as records or packets are whole
+abbrev pub IsCounted : Format → ℕ → Type 0
+IsCounted (Open matched) number = (matched < 4) × (number ≡ 0)
+IsCounted (Pcap reader) number = (reader.limit ≡ record_limit) × (number ≡ reader.count) × (reader.count ≤ record_limit)
+IsCounted (Ng reader) number = (reader.limit ≡ record_limit) × (number ≡ reader.walk.packets) × (reader.walk.packets ≤ record_limit)
+
+abbrev pub Counts : Loading → Type 0
+Counts loading = IsCounted loading.format (number_of loading.notes)
+
+-- how many bytes came
+abbrev pub bytes_of : Format → ℕ
+bytes_of (Open matched) = matched
+bytes_of (Pcap reader) = reader.bytes
+bytes_of (Ng reader) = taken_by reader
+
+-- the most bytes that are read of a capture
+abbrev pub most_bytes : ℕ
+most_bytes = most_of record_limit
+
+-- why a reader stopped in these bytes
+abbrev pub PcapStops : List ℕ → LoadStop → Type 0
+PcapStops bytes ReadFault = ⊥
+PcapStops bytes (BadStop bad) = (frames : List Framed) × PcapRefusesNext record_limit bytes frames bad
+PcapStops bytes (NgStop bad) = ⊥
+PcapStops bytes NoMemory = Unit {0}
+
+abbrev pub NgStops : List ℕ → LoadStop → Type 0
+NgStops bytes ReadFault = ⊥
+NgStops bytes (BadStop bad) = ⊥
+NgStops bytes (NgStop bad) = (frames : List Framed) × NgRefusesNext record_limit bytes frames bad
+NgStops bytes NoMemory = Unit {0}
 
 -- why loading stopped in these bytes
 abbrev pub StopsIn : List ℕ → LoadStop → Type 0
 StopsIn bytes ReadFault = ⊥
-StopsIn bytes (BadStop bad) = (frames : List Framed) × RefusesNext record_limit bytes frames bad
+StopsIn bytes (BadStop bad) = (frames : List Framed) × RefusesNext record_limit bytes frames (PcapRefusal bad)
+StopsIn bytes (NgStop bad) = (frames : List Framed) × RefusesNext record_limit bytes frames (NgRefusal bad)
 StopsIn bytes NoMemory = Unit {0}
+
+-- what the whole input was, where it ended with this answer
+abbrev pub EndsAs : List ℕ → List Framed → Result ℕ LoadStop → Type 0
+EndsAs bytes frames (Ok cut) = CaptureOf record_limit bytes (Whole frames cut)
+EndsAs bytes frames (Err ReadFault) = ⊥
+EndsAs bytes frames (Err (BadStop bad)) = CaptureOf record_limit bytes (Refused (PcapRefusal bad))
+EndsAs bytes frames (Err (NgStop bad)) = CaptureOf record_limit bytes (Refused (NgRefusal bad))
+EndsAs bytes frames (Err NoMemory) = ⊥
 
 -- why loading stopped at the end of these bytes
 abbrev pub EndsIn : List ℕ → LoadStop → Type 0
-EndsIn bytes ReadFault = ⊥
-EndsIn bytes (BadStop bad) = CaptureOf record_limit bytes (Refused bad)
-EndsIn bytes NoMemory = ⊥
+EndsIn bytes stop = EndsAs bytes [] (Err stop)

@@ -1,9 +1,10 @@
 -- One frame more.
-use Rattle.std.specs.Prelude.{ℕ, ◌<◌, ◌+◌, Result, Ok, Err}
+use Rattle.std.specs.Prelude.{ℕ, ◌+◌, length, Result, Ok, Err}
 use Rattle.packet_key.specs.declared.key.FlowKey.{FlowKey}
 use Rattle.packet_key.specs.declared.key.Skip.{Skip}
 use Rattle.packet_key.specs.declared.key.Skip.TheVariants.{ShortFrame, NotIp, BadIp, ManyTags}
 use Rattle.hash_rows.specs.declared.shape.Tallies.{Tallies}
+use Rattle.capture_load.specs.declared.notes.Notes.{Notes}
 
 -- one more is counted, by why it has no key
 abbrev pub tallied : Tallies → Result FlowKey Skip → Tallies
@@ -13,10 +14,6 @@ tallied t (Err (NotIp ethertype)) = record { short = t.short; not_ip = t.not_ip 
 tallied t (Err BadIp) = record { short = t.short; not_ip = t.not_ip; bad_ip = t.bad_ip + 1; tags = t.tags }
 tallied t (Err ManyTags) = record { short = t.short; not_ip = t.not_ip; bad_ip = t.bad_ip; tags = t.tags + 1 }
 
--- the records that were skipped, and those with a packet
-abbrev pub sum_of : Tallies → ℕ → ℕ
-sum_of t packets = t.short + t.not_ip + t.bad_ip + t.tags + packets
-
--- as many records as these have counts to spare
-abbrev pub IsBelow : Tallies → ℕ → Type 0
-IsBelow t packets = sum_of t packets < 16777216
+-- how many frames were noted: those that were skipped, and those with a packet
+abbrev pub number_of : Notes → ℕ
+number_of notes = notes.skipped.short + notes.skipped.not_ip + notes.skipped.bad_ip + notes.skipped.tags + length notes.packets.items

@@ -2,10 +2,15 @@
 #![tactic(auto)]
 
 mod capture;
+mod format;
 mod generated;
+mod laws;
 mod load;
 mod loading;
+mod notes;
+mod steps;
 
-pub use capture::{Capture, LoadStop};
+pub use capture::{Capture, LoadStop, Refusal};
 pub use generated::GenSource;
+pub use laws::{generated_whole, one_outcome, refusal_stays};
 pub use load::load_capture;

@@ -1,10 +1,10 @@
 -- What a command reads.
-use Rattle.std.proofs.Common.{◌≡◌, ◌∙◌, ◌⊎◌, inl, inr, refl, sym, ap, subst, append-nil, List, [], ℕ, ◌++◌, ◌≤◌}
+use Rattle.std.proofs.Common.{◌≡◌, ◌∙◌, inl, inr, refl, sym, ap, subst, append-nil, List, [], ℕ, ◌++◌, ◌≤◌}
 use Rattle.std.specs.Prelude.{Option, Some, None}
 use Rattle.flow_base.specs.Flow.{behind, Given}
-use Rattle.pcap_read.specs.Capture.{CaptureOf, Refused, RefusesNext}
-use Rattle.pcap_read.specs.declared.bad.Bad.{Bad}
-use Rattle.pcap_read.proofs.Steps.{refusal_stays}
+use Rattle.capture_load.specs.Capture.{CaptureOf, Refused, RefusesNext}
+use Rattle.capture_load.specs.declared.capture.Refusal.{Refusal}
+use Rattle.capture_load.proofs.Once.{refusal_stays}
 use Rattle.hash_rows.specs.Lawful.{IsLawful}
 use Rattle.hash_rows.specs.declared.options.Mode.TheVariants.{Rounds}
 use Rattle.words.specs.Options.{Gives, options_in}
@@ -30,7 +30,7 @@ module _ (records start : ℕ) (before after given : List ℕ) (is : before ≡ 
       subst (λ (g : List ℕ). P g []) (whole none) (subst (P given) none held)
 
   -- what refuses a front of them refuses all
-  pub load_refused : (bad : Bad) → Given (Some before) (Some after) (λ g rest. HoldsRefusal g rest bad) → HoldsRefusal (generated records start) [] bad
+  pub load_refused : (bad : Refusal) → Given (Some before) (Some after) (λ g rest. HoldsRefusal g rest bad) → HoldsRefusal (generated records start) [] bad
   load_refused bad holds = by (holds given after front refl)
     where
       by : HoldsRefusal given after bad → HoldsRefusal (generated records start) [] bad

@@ -5,7 +5,7 @@ use Rattle.flow_base.specs.Causes.{Rose}
 use Rattle.flow_base.specs.Flow.{behind, Given}
 use Rattle.flow_base.specs.declared.status.Status.{Status}
 use Rattle.flow_base.specs.declared.status.Status.TheVariants.{Done}
-use Rattle.pcap_read.specs.declared.bad.Bad.{Bad}
+use Rattle.capture_load.specs.declared.capture.Refusal.{Refusal}
 use Rattle.capture_load.specs.Generated.{generated}
 use Rattle.capture_load.specs.Loads.{HoldsRefusal}
 use Rattle.words.specs.declared.command.Command.{Command}
@@ -35,7 +35,7 @@ pub fault_end : (Reads : (List ℕ → List ℕ → Type 0) → Type 0) (IsText 
     → status ≡ status_of fault → TellsLine err.bytes err'.bytes err.faults err'.faults (fault_line fault)
     → (fault ≡ SourceFault → Rose source.faults source'.faults) → (fault ≡ SourceFault → Reads IsUnrefused)
     → (fault ≡ SinkFault → Rose out.faults out'.faults) → (fault ≡ SinkFault → Reads (CutShort IsText out.bytes out'.bytes)) → (fault ≡ SinkFault → Reads IsAccepted)
-    → ((bad : Bad) → fault ≡ BadFault bad → Reads (λ given rest. HoldsRefusal given rest bad)) → (fault ≡ UsageFault → ⊥)
+    → ((bad : Refusal) → fault ≡ BadFault bad → Reads (λ given rest. HoldsRefusal given rest bad)) → (fault ≡ UsageFault → ⊥)
     → IsEnd Reads IsText source source' out out' err err' status
 fault_end Reads IsText source source' out out' err err' fault status e line rose unrefused risen cut accepted refused usage = record {
   done = λ is. absurd (never_done fault (sym e ∙ is));

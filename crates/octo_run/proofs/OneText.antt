@@ -3,9 +3,9 @@ use Rattle.std.proofs.Common.{◌≡◌, ◌∙◌, ◌<◌, ◌⊎◌, inl, inr
 use Rattle.std.proofs.lemmas.Bool.Decides.{nat_tests}
 use Rattle.std.specs.Prelude.{fold}
 use Rattle.std.specs.List.{range_with_len}
-use Rattle.pcap_read.specs.Capture.{CaptureOf, Whole}
+use Rattle.capture_load.specs.Capture.{CaptureOf, Whole}
 use Rattle.pcap_read.specs.Records.{Framed}
-use Rattle.pcap_read.proofs.Once.{one_reading}
+use Rattle.capture_load.proofs.Once.{one_outcome}
 use Rattle.capture_load.specs.Loads.{record_limit}
 use Rattle.capture_load.specs.Packets.{packets_of, tallies_of}
 use Rattle.hash_rows.specs.declared.options.Mode.{Mode}
@@ -64,8 +64,7 @@ one_report_text o p frames cut s t ask x y =
 -- the frames and the cut bytes
 one_capture : (bytes : List ℕ) (fs gs : List Framed) (c d : ℕ) → CaptureOf record_limit bytes (Whole fs c) → CaptureOf record_limit bytes (Whole gs d) → (fs ≡ gs) × (c ≡ d)
 one_capture bytes fs gs c d x y =
-    let same = one_reading record_limit bytes fs gs x.0 y.0 x.1 y.1 in
-    (same.0, x.2 ∙ ap (λ (r : List ℕ). length r) same.1 ∙ sym y.2)
+    let same : Whole fs c ≡ Whole gs d = one_outcome record_limit bytes (Whole fs c) (Whole gs d) x y in (cc, cc)
 
 pub one_report : (o p : Options) (bytes s t : List ℕ) → AskForOneReport o p → (a : IsRunText o bytes s) → (b : IsRunText p bytes t) → a.report ≡ b.report
 one_report o p bytes s t ask a b =

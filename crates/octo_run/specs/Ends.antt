@@ -1,12 +1,12 @@
 -- How a command that reads a capture may end.
-use Rattle.std.specs.Prelude.{◌≡◌, ◌≢◌, ◌⊎◌, ℕ, ◌++◌, List, [], Option}
+use Rattle.std.specs.Prelude.{◌≡◌, ◌≢◌, ◌⊎◌, ℕ, List, [], Option}
 use Rattle.flow_base.specs.Causes.{Rose}
-use Rattle.flow_base.specs.Flow.{behind, grown, TookFront}
+use Rattle.flow_base.specs.Flow.{grown, TookFront}
 use Rattle.flow_base.specs.declared.status.Status.{Status}
 use Rattle.flow_base.specs.declared.status.Status.TheVariants.{Done, Usage, ReadFault, WriteFault, BadCapture, TooMany, Differs}
-use Rattle.pcap_read.specs.Capture.{RefusesNext}
+use Rattle.capture_load.specs.Capture.{RefusesNext}
 use Rattle.pcap_read.specs.Records.{Framed}
-use Rattle.pcap_read.specs.declared.bad.Bad.{Bad}
+use Rattle.capture_load.specs.declared.capture.Refusal.{Refusal}
 use Rattle.capture_load.specs.Loads.{record_limit, HoldsRefusal}
 use Rattle.octo_run.specs.Faults.{TellsLine, fault_line, status_of, status_of_bad}
 use Rattle.octo_run.specs.declared.faults.Fault.{Fault}
@@ -30,15 +30,15 @@ CutShort IsText before after given rest = (rest ≡ []) × (text : List ℕ) × 
 
 -- all bytes were given, and they hold no refusal
 abbrev pub IsAccepted : List ℕ → List ℕ → Type 0
-IsAccepted given rest = (rest ≡ []) × ((bad : Bad) → HoldsRefusal given rest bad → ⊥)
+IsAccepted given rest = (rest ≡ []) × ((bad : Refusal) → HoldsRefusal given rest bad → ⊥)
 
 -- the bytes given hold no refusal that can be found before the end of input
 abbrev pub IsUnrefused : List ℕ → List ℕ → Type 0
-IsUnrefused given rest = (frames : List Framed) (bad : Bad) → RefusesNext record_limit given frames bad → ⊥
+IsUnrefused given rest = (frames : List Framed) (bad : Refusal) → RefusesNext record_limit given frames bad → ⊥
 
 -- the capture is refused by what stands first in the bytes given, and the line tells it
 abbrev pub IsRefused : ((List ℕ → List ℕ → Type 0) → Type 0) → Side → Side → Status → Type 0
-IsRefused Reads err err' status = (bad : Bad) × (status ≡ status_of_bad bad) × Reads (λ given rest. HoldsRefusal given rest bad)
+IsRefused Reads err err' status = (bad : Refusal) × (status ≡ status_of_bad bad) × Reads (λ given rest. HoldsRefusal given rest bad)
     × TellsLine err.bytes err'.bytes err.faults err'.faults (fault_line (BadFault bad))
 
 -- a fault comes with this status, and the line tells it

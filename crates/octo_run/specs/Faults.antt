@@ -8,11 +8,17 @@ use Rattle.flow_base.specs.declared.status.Status.TheVariants.{Usage, ReadFault,
 use Rattle.pcap_read.specs.declared.bad.Bad.{Bad}
 use Rattle.pcap_read.specs.declared.bad.Bad.TheVariants.{ShortHeader, UnknownMagic, PcapNg, BadVersion, NotEthernet, TooLong}
 use Rattle.pcap_read.specs.declared.bad.Bad.TheVariants.{TooMany as TooManyRecords}
+use Rattle.pcapng_read.specs.declared.bad.NgBad.{NgBad}
+use Rattle.pcapng_read.specs.declared.bad.NgBad.TheVariants.{ShortSection, BadOrder, BadBlock, NoInterface}
+use Rattle.pcapng_read.specs.declared.bad.NgBad.TheVariants.{BadVersion as NgVersion, NotEthernet as NgLink, TooLong as NgLong, TooMany as TooManyBlocks}
+use Rattle.capture_load.specs.declared.capture.Refusal.{Refusal}
+use Rattle.capture_load.specs.declared.capture.Refusal.TheVariants.{Pcap, Ng}
 use Rattle.octo_run.specs.declared.faults.Fault.{Fault}
 use Rattle.octo_run.specs.declared.faults.Fault.TheVariants.{Usage as UsageFault, ReadFault as SourceFault, WriteFault as SinkFault, Bad as BadFault, NoMemory as MemoryFault}
 
-abbrev pub status_of_bad : Bad → Status
-status_of_bad TooManyRecords = TooMany
+abbrev pub status_of_bad : Refusal → Status
+status_of_bad (Pcap TooManyRecords) = TooMany
+status_of_bad (Ng TooManyBlocks) = TooMany
 status_of_bad _ = BadCapture
 
 abbrev pub status_of : Fault → Status
@@ -28,15 +34,30 @@ hex8 n =
     digit_char (n / 0x10000000 % 16) ∷ digit_char (n / 0x1000000 % 16) ∷ digit_char (n / 0x100000 % 16) ∷ digit_char (n / 0x10000 % 16)
     ∷ digit_char (n / 0x1000 % 16) ∷ digit_char (n / 0x100 % 16) ∷ digit_char (n / 0x10 % 16) ∷ digit_char (n % 16) ∷ []
 
--- why a capture is refused, with its numbers
-unfoldable pub bad_text : Bad → List ℕ
-bad_text (ShortHeader len) = codes "octo: bad capture 1 length " ++ decimal len
-bad_text (UnknownMagic magic) = codes "octo: bad capture 2 magic " ++ hex8 magic
-bad_text PcapNg = codes "octo: bad capture 3 pcapng"
-bad_text (BadVersion major minor) = codes "octo: bad capture 4 version " ++ decimal major ++ codes "." ++ decimal minor
-bad_text (NotEthernet link) = codes "octo: bad capture 5 link " ++ decimal link
-bad_text (TooLong offset length) = codes "octo: bad capture 6 offset " ++ decimal offset ++ codes " length " ++ decimal length
-bad_text TooManyRecords = codes "octo: too many records"
+-- why a libpcap capture is refused, with its numbers
+unfoldable pub pcap_text : Bad → List ℕ
+pcap_text (ShortHeader len) = codes "octo: bad capture 1 length " ++ decimal len
+pcap_text (UnknownMagic magic) = codes "octo: bad capture 2 magic " ++ hex8 magic
+pcap_text PcapNg = codes "octo: bad capture 3 pcapng"
+pcap_text (BadVersion major minor) = codes "octo: bad capture 4 version " ++ decimal major ++ codes "." ++ decimal minor
+pcap_text (NotEthernet link) = codes "octo: bad capture 5 link " ++ decimal link
+pcap_text (TooLong offset length) = codes "octo: bad capture 6 offset " ++ decimal offset ++ codes " length " ++ decimal length
+pcap_text TooManyRecords = codes "octo: too many records"
+
+-- why a pcapng capture is refused; what both formats are refused for has one text
+unfoldable pub ng_text : NgBad → List ℕ
+ng_text (ShortSection len) = codes "octo: bad capture 8 length " ++ decimal len
+ng_text (BadOrder magic) = codes "octo: bad capture 9 magic " ++ hex8 magic
+ng_text (BadBlock offset length) = codes "octo: bad capture 10 offset " ++ decimal offset ++ codes " length " ++ decimal length
+ng_text (NoInterface offset number) = codes "octo: bad capture 11 offset " ++ decimal offset ++ codes " interface " ++ decimal number
+ng_text (NgVersion major minor) = pcap_text (BadVersion major minor)
+ng_text (NgLink link) = pcap_text (NotEthernet link)
+ng_text (NgLong offset length) = pcap_text (TooLong offset length)
+ng_text TooManyBlocks = pcap_text TooManyRecords
+
+unfoldable pub bad_text : Refusal → List ℕ
+bad_text (Pcap bad) = pcap_text bad
+bad_text (Ng bad) = ng_text bad
 
 unfoldable pub fault_text : Fault → List ℕ
 fault_text UsageFault = codes "octo: usage"

@@ -1,7 +1,7 @@
 -- The text of a run, and the bytes that a command reads.
 use Rattle.std.specs.Prelude.{◌≡◌, ◌≢◌, ◌≤◌, ℕ, ◌++◌, Bool, true, false, List, [], length, Option}
 use Rattle.flow_base.specs.Flow.{Given}
-use Rattle.pcap_read.specs.Capture.{CaptureOf, Whole}
+use Rattle.capture_load.specs.Capture.{CaptureOf, Whole}
 use Rattle.pcap_read.specs.Records.{Framed}
 use Rattle.hash_rows.specs.declared.options.Options.{Options}
 use Rattle.hash_rows.specs.declared.shape.Packet.{Packet}

@@ -1,5 +1,10 @@
+ghost use Rattle.std.specs.Prelude.{◌≡◌};
+ghost use Rattle.octo_run.specs.Faults.{status_of_bad};
+
+use capture_load::Refusal;
 use flow_base::Status;
 use pcap_read::Bad;
+use pcapng_read::NgBad;
 
 /// Why a run ends without its report.
 #[derive(Clone, Copy, Debug, PartialEq, Eq)]
@@ -7,12 +12,11 @@ pub enum Fault {
     Usage,
     ReadFault,
     WriteFault,
-    Bad(Bad),
+    Bad(Refusal),
     NoMemory,
 }
 
 impl Fault {
-    ghost use Rattle.std.specs.Prelude.{◌≡◌};
     ghost use Rattle.octo_run.specs.Faults.{status_of};
 
     /// The status with which the run ends.
@@ -23,9 +27,19 @@ impl Fault {
             Fault::Usage => Status::Usage,
             Fault::ReadFault => Status::ReadFault,
             Fault::WriteFault => Status::WriteFault,
-            Fault::Bad(Bad::TooMany) => Status::TooMany,
-            Fault::Bad(_) => Status::BadCapture,
+            Fault::Bad(refusal) => refused(refusal),
             Fault::NoMemory => Status::NoMemory,
         }
+    }
+}
+
+// The status of a refused capture.
+fn refused(refusal: Refusal) -> Status
+    ensures { result ≡ status_of_bad refusal }
+{
+    match refusal {
+        Refusal::Pcap(Bad::TooMany) => Status::TooMany,
+        Refusal::Ng(NgBad::TooMany) => Status::TooMany,
+        _ => Status::BadCapture,
     }
 }

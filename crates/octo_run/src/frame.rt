@@ -2,14 +2,14 @@ ghost use Rattle.std.specs.Prelude.{◌≡◌, ◌≢◌, ℕ, List, OnOk, IsErr
 ghost use Rattle.flow_base.specs.Causes.{Rose};
 ghost use Rattle.flow_base.specs.Flow.{Given, behind};
 ghost use Rattle.capture_load.specs.Loads.{HoldsRefusal};
-ghost use Rattle.pcap_read.specs.declared.bad.Bad.{Bad};
+ghost use Rattle.capture_load.specs.declared.capture.Refusal.{Refusal};
 ghost use Rattle.octo_run.specs.Ends.{CutShort, IsAccepted, IsEnd, IsUnrefused, Reported, side};
 ghost use Rattle.octo_run.specs.declared.faults.Fault.{Fault};
 
 use crate::faults::Fault;
 use crate::lines::tell;
 use crate::task::Task;
-use capture_load::{LoadStop, load_capture};
+use capture_load::{LoadStop, Refusal, load_capture};
 use flow_base::{Sink, Source, Status};
 use std::alloc::Global;
 
@@ -52,7 +52,7 @@ fn attempt<W: Task, S: Source, T: Sink>(
     ensures write { IsErrOf result Fault.WriteFault → Rose (T.faults out.old) (T.faults out.new) }
     ensures cut { IsErrOf result Fault.WriteFault
         → Given (S.left source.old) (S.left source.new) (CutShort (W.is_text task.now) (T.holds out.old) (T.holds out.new)) }
-    ensures bad { (bad : Bad) → IsErrOf result (Fault.Bad bad)
+    ensures bad { (bad : Refusal) → IsErrOf result (Fault.Bad bad)
         → Given (S.left source.old) (S.left source.new) (λ given rest. HoldsRefusal given rest bad) }
     ensures accepted { OnOk result (Given (S.left source.old) (S.left source.new) IsAccepted) }
     ensures accepted_cut { IsErrOf result Fault.WriteFault → Given (S.left source.old) (S.left source.new) IsAccepted }
@@ -63,7 +63,8 @@ fn attempt<W: Task, S: Source, T: Sink>(
     let capture = match load_capture(alloc, source, task.amount()) {
         Ok(capture) => capture,
         Err(LoadStop::ReadFault) => return Err(Fault::ReadFault),
-        Err(LoadStop::Bad(bad)) => return Err(Fault::Bad(bad)),
+        Err(LoadStop::Bad(bad)) => return Err(Fault::Bad(Refusal::Pcap(bad))),
+        Err(LoadStop::Ng(bad)) => return Err(Fault::Bad(Refusal::Ng(bad))),
         Err(LoadStop::NoMemory) => return Err(Fault::NoMemory),
     };
     match task.results(alloc, &capture) {

@@ -11,7 +11,7 @@ mod rounds;
 mod run;
 mod task;
 
-pub use capture_load::{Capture, GenSource, LoadStop, load_capture};
+pub use capture_load::{Capture, GenSource, LoadStop, Refusal, load_capture};
 pub use faults::Fault;
 pub use laws::{one_report, one_text};
 pub use lines::tell;

@@ -1,11 +1,13 @@
 ghost use Rattle.std.specs.Prelude.{◌≡◌, ◌<◌, ◌≤◌, ◌+◌, ◌++◌, length};
 ghost use Rattle.std.specs.Char.{digit_char};
-ghost use Rattle.octo_run.specs.Faults.{TellsLine, bad_text, fault_line, fault_text, hex8, status_of};
+ghost use Rattle.octo_run.specs.Faults.{TellsLine, bad_text, fault_line, fault_text, hex8, ng_text, pcap_text, status_of};
 
 use crate::faults::Fault;
+use capture_load::Refusal;
 use flow_base::{Sink, Status};
 use octo_text::Line;
 use pcap_read::Bad;
+use pcapng_read::NgBad;
 
 /// Writes the fault's line, and answers its status. A fault of the sink is ignored.
 #[tactic(auto, unfolding(crate::specs::Faults::fault_line))]
@@ -30,15 +32,27 @@ fn put_fault(line: &mut Line, fault: Fault)
         Fault::Usage => line.text(b"octo: usage"),
         Fault::ReadFault => line.text(b"octo: read fault"),
         Fault::WriteFault => line.text(b"octo: write fault"),
-        Fault::Bad(bad) => put_bad(line, bad),
+        Fault::Bad(refusal) => put_bad(line, refusal),
         Fault::NoMemory => line.text(b"octo: no memory"),
     }
 }
 
 #[tactic(auto, unfolding(crate::specs::Faults::bad_text))]
-fn put_bad(line: &mut Line, bad: Bad)
+fn put_bad(line: &mut Line, refusal: Refusal)
     requires { length line.old ≤ 0 }
-    ensures text { line.new ≡ line.old ++ bad_text bad }
+    ensures text { line.new ≡ line.old ++ bad_text refusal }
+    ensures room { length line.new ≤ 300 }
+{
+    match refusal {
+        Refusal::Pcap(bad) => put_pcap(line, bad),
+        Refusal::Ng(bad) => put_ng(line, bad),
+    }
+}
+
+#[tactic(auto, unfolding(crate::specs::Faults::pcap_text))]
+fn put_pcap(line: &mut Line, bad: Bad)
+    requires { length line.old ≤ 0 }
+    ensures text { line.new ≡ line.old ++ pcap_text bad }
     ensures room { length line.new ≤ 300 }
 {
     match bad {
@@ -58,6 +72,33 @@ fn put_bad(line: &mut Line, bad: Bad)
             line.named(b" length ", u64::from(length));
         }
         Bad::TooMany => line.text(b"octo: too many records"),
+    }
+}
+
+#[tactic(auto, unfolding(crate::specs::Faults::ng_text))]
+fn put_ng(line: &mut Line, bad: NgBad)
+    requires { length line.old ≤ 0 }
+    ensures text { line.new ≡ line.old ++ ng_text bad }
+    ensures room { length line.new ≤ 300 }
+{
+    match bad {
+        NgBad::ShortSection { len } => line.named(b"octo: bad capture 8 length ", u64::from(len)),
+        NgBad::BadOrder { magic } => {
+            line.text(b"octo: bad capture 9 magic ");
+            put_hex(line, magic);
+        }
+        NgBad::BadBlock { offset, length } => {
+            line.named(b"octo: bad capture 10 offset ", offset);
+            line.named(b" length ", u64::from(length));
+        }
+        NgBad::NoInterface { offset, number } => {
+            line.named(b"octo: bad capture 11 offset ", offset);
+            line.named(b" interface ", u64::from(number));
+        }
+        NgBad::BadVersion { major, minor } => put_pcap(line, Bad::BadVersion { major, minor }),
+        NgBad::NotEthernet { link } => put_pcap(line, Bad::NotEthernet { link }),
+        NgBad::TooLong { offset, length } => put_pcap(line, Bad::TooLong { offset, length }),
+        NgBad::TooMany => put_pcap(line, Bad::TooMany),
     }
 }
 

@@ -7,7 +7,7 @@ ghost use Rattle.octo_run.specs.Ends.{CutShort, IsAccepted, IsEnd, IsTold, IsUnr
 ghost use Rattle.octo_run.specs.Faults.{TellsLine, fault_line, status_of_bad};
 ghost use Rattle.octo_run.specs.Runs.{GivenFor, HasText, IsReadyRun, Leaves, Spares};
 ghost use Rattle.octo_run.specs.declared.faults.Fault.{Fault};
-ghost use Rattle.pcap_read.specs.declared.bad.Bad.{Bad};
+ghost use Rattle.capture_load.specs.declared.capture.Refusal.{Refusal};
 ghost use Rattle.hash_rows.specs.declared.options.Options.{Options};
 ghost use Rattle.words.specs.Options.{Gives};
 ghost use Rattle.words.specs.declared.command.Command.{Command};
@@ -80,7 +80,7 @@ pub fn octo<R: Threads + Sync, S: Source, T: Sink, E: Sink>(
         → GivenFor command (S.left source.old) (S.left source.new) (CutShort (HasText command) (T.holds out.old) (T.holds out.new)) }
     // A capture is refused exactly by what stands first in its bytes.
     ensures bad { (result ≡ Status.BadCapture) ⊎ (result ≡ Status.TooMany)
-        → (command : Command) → Gives (map string_bytes words.now) command → (bad : Bad) × (result ≡ status_of_bad bad)
+        → (command : Command) → Gives (map string_bytes words.now) command → (bad : Refusal) × (result ≡ status_of_bad bad)
         × GivenFor command (S.left source.old) (S.left source.new) (λ given rest. HoldsRefusal given rest bad)
         × TellsLine (E.holds err.old) (E.holds err.new) (E.faults err.old) (E.faults err.new) (fault_line (Fault.Bad bad)) }
     ensures accepted { (result ≡ Status.Done) ⊎ (result ≡ Status.WriteFault)

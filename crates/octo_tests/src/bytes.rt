@@ -47,3 +47,19 @@ pub const BIG_HEAD_OF_54: &[u8] = b"\0\0\0\0\0\0\0\0\0\0\0\x36\0\0\0\x36";
 pub const HEAD_OF_NONE: &[u8] = b"\0\0\0\0\0\0\0\0\x36\0\0\0\0\0\0\0";
 
 pub const HEAD_OF_MOST: &[u8] = b"\0\0\0\0\0\0\0\0\x36\0\0\0\xff\xff\xff\xff";
+
+/// The blocks of a pcapng capture: a little-endian section, and an Ethernet interface.
+pub const SECTION: &[u8] =
+    b"\x0a\x0d\x0d\x0a\x1c\0\0\0\x4d\x3c\x2b\x1a\x01\0\0\0\xff\xff\xff\xff\xff\xff\xff\xff\x1c\0\0\0";
+
+pub const INTERFACE: &[u8] = b"\x01\0\0\0\x14\0\0\0\x01\0\0\0\0\0\0\0\x14\0\0\0";
+
+/// What stands before and behind the first frame in an enhanced and in a simple packet block.
+pub const ENHANCED_HEAD: &[u8] =
+    b"\x06\0\0\0\x58\0\0\0\0\0\0\0\0\0\0\0\0\0\0\0\x36\0\0\0\x36\0\0\0";
+
+pub const ENHANCED_TAIL: &[u8] = b"\0\0\x58\0\0\0";
+
+pub const SIMPLE_HEAD: &[u8] = b"\x03\0\0\0\x48\0\0\0\x36\0\0\0";
+
+pub const SIMPLE_TAIL: &[u8] = b"\0\0\x48\0\0\0";

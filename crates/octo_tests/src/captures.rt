@@ -2,14 +2,14 @@
 // the TCP frame, and the first 9 bytes of a third one.
 
 use crate::bytes::{
-    ARP_FRAME, BIG_HEAD_OF_54, BIG_HEADER, FRAGMENT, HEAD_OF_42, HEAD_OF_50, HEAD_OF_54,
-    HEAD_OF_62, HEAD_OF_MOST, HEAD_OF_NONE, ICMP_FRAME, IPV6_FRAME, LITTLE_HEADER, TAGGED_FRAME,
-    TCP_FRAME,
+    ARP_FRAME, BIG_HEAD_OF_54, BIG_HEADER, ENHANCED_HEAD, ENHANCED_TAIL, FRAGMENT, HEAD_OF_42,
+    HEAD_OF_50, HEAD_OF_54, HEAD_OF_62, HEAD_OF_MOST, HEAD_OF_NONE, ICMP_FRAME, INTERFACE,
+    IPV6_FRAME, LITTLE_HEADER, SECTION, SIMPLE_HEAD, SIMPLE_TAIL, TAGGED_FRAME, TCP_FRAME,
 };
 use std::alloc::{AllocError, Global};
 use std::test::Fail;
 
-/// The head and the frame of a record with this name, or a header.
+/// The head and the frame of a record or a packet block with this name, or a header.
 fn named(name: &str) -> Option<(&'static [u8], &'static [u8])> {
     match name {
         "LH" => Some((LITTLE_HEADER, &[])),
@@ -23,7 +23,20 @@ fn named(name: &str) -> Option<(&'static [u8], &'static [u8])> {
         "fragment" => Some((HEAD_OF_42, FRAGMENT)),
         "icmp" => Some((HEAD_OF_42, ICMP_FRAME)),
         "ipv6" => Some((HEAD_OF_62, IPV6_FRAME)),
+        "SB" => Some((SECTION, &[])),
+        "IB" => Some((INTERFACE, &[])),
+        "EB" => Some((ENHANCED_HEAD, TCP_FRAME)),
+        "PB" => Some((SIMPLE_HEAD, TCP_FRAME)),
         _ => None,
+    }
+}
+
+/// What stands behind the frame.
+fn tail(name: &str) -> &'static [u8] {
+    match name {
+        "EB" => ENHANCED_TAIL,
+        "PB" => SIMPLE_TAIL,
+        _ => &[],
     }
 }
 
@@ -56,6 +69,7 @@ fn of_name(alloc: Global, name: &str) -> Result<Vec<u8>, Fail> {
             let mut bytes = Vec::new(alloc);
             bytes.extend_from_slice(head)?;
             bytes.extend_from_slice(frame)?;
+            bytes.extend_from_slice(tail(name))?;
             Ok(bytes)
         }
         None => of_digits(alloc, name),

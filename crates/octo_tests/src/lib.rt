@@ -12,6 +12,8 @@ mod captures;
 #[cfg(test)]
 mod faults;
 #[cfg(test)]
+mod pcapng;
+#[cfg(test)]
 mod refusals;
 #[cfg(test)]
 mod runs;

@@ -23,7 +23,7 @@ run
 == pcapng
 run
 0a0d0d0a
-4 octo: bad capture 3 pcapng
+4 octo: bad capture 8 length 4
 == a later version, whose header is cut
 run
 d4c3b2a1 02000300

@@ -5,7 +5,6 @@ use Rattle.capture_load.proofs.load.begin.Goals as goal
 pub returns-in-Ok-clause-loads : goal.returns-in-Ok-clause-loads
 unfolding packets_of tallies_of
 returns-in-Ok-clause-loads c = record {
-  stands = c.in-Ok.ensures.stands;
-  packets = c.in-Ok.ensures.packets;
-  skipped = refl;
+  stands = (refl, refl);
+  keeps = record { packets = c.in-Ok.ensures.empty; skipped = refl };
 }

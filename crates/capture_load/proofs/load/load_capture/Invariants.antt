@@ -1,8 +1,7 @@
-use Rattle.std.proofs.Common.{◌≡◌, ◌≤◌, ◌+◌, ◌-◌, ◌*◌, ℕ, List}
+use Rattle.std.proofs.Common.{◌≡◌, ◌≤◌, ◌-◌, ℕ, List}
 use Rattle.flow_base.specs.Flow.{behind}
 use Rattle.pcap_read.specs.Records.{Framed}
-use Rattle.pcap_read.specs.Takes.{most_bytes}
-use Rattle.capture_load.specs.Loads.{Loads, Counts, record_limit}
+use Rattle.capture_load.specs.Loads.{Counts, Loads, bytes_of, most_bytes}
 use Rattle.capture_load.proofs.load.load_capture.Given as goal
 
 abbrev pub invariant-loop-loading : goal.invariant-loop-loading
@@ -10,7 +9,7 @@ invariant-loop-loading g l =
     Counts l.loading
     × (g.S.Source.faults l.initial.source ≤ g.S.Source.faults l.source)
     × ((given : List ℕ) × (frames : List Framed) × (g.S.Source.left l.initial.source ≡ behind given (g.S.Source.left l.source)) × Loads l.loading given frames)
-    × (l.loading.amount ≡ l.fn.amount)
+    × (l.loading.notes.amount ≡ l.fn.amount)
 
 abbrev pub decreases-loop-loading : goal.decreases-loop-loading
-decreases-loop-loading g l = most_bytes record_limit - l.loading.reader.bytes
+decreases-loop-loading g l = most_bytes - bytes_of l.loading.format

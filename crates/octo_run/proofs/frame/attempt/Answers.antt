@@ -1,9 +1,12 @@
-use Rattle.std.proofs.Common.{◌≡◌, ◌∙◌, sym, ap}
+use Rattle.std.proofs.Common.{◌≡◌, ◌∙◌, sym, ap, subst}
 use Rattle.std.specs.Prelude.{Result, Err}
-use Rattle.pcap_read.specs.declared.bad.Bad.{Bad}
+use Rattle.capture_load.specs.declared.capture.Refusal.{Refusal}
+use Rattle.capture_load.specs.declared.capture.Refusal.TheVariants.{Pcap, Ng}
 use Rattle.capture_load.specs.declared.capture.Capture.{Capture}
 use Rattle.capture_load.specs.declared.capture.LoadStop.{LoadStop}
-use Rattle.capture_load.specs.declared.capture.LoadStop.TheVariants.{Bad as BadStop}
+use Rattle.capture_load.specs.Loads.{HoldsRefusal}
+use Rattle.pcap_read.specs.declared.bad.Bad.{Bad}
+use Rattle.pcapng_read.specs.declared.bad.NgBad.{NgBad}
 use Rattle.octo_run.proofs.Statuses.{same_bad}
 use Rattle.octo_run.proofs.frame.attempt.Goals as goal
 
@@ -11,10 +14,16 @@ pub returns-in-Err-ReadFault-clause-unrefused : goal.returns-in-Err-ReadFault-cl
 returns-in-Err-ReadFault-clause-unrefused g c = λ is given rest told left frames bad. let f : LoadStop → Result Capture LoadStop = λ s. Err s in c.in-Err-ReadFault.ensures.unrefused (ap f c.in-Err-ReadFault.field-0-is) frames bad given rest told left
 
 pub returns-in-Err-Bad-clause-bad : goal.returns-in-Err-Bad-clause-bad
-returns-in-Err-Bad-clause-bad g c = λ bad is given rest told left.
+returns-in-Err-Bad-clause-bad g c = λ refusal is given rest told left.
     let f : LoadStop → Result Capture LoadStop = λ s. Err s in
-    let same : c.in-Err-Bad.bad ≡ bad = sym c.in-Err-Bad.bad-is ∙ same_bad _ bad is in
-    c.in-Err-Bad.ensures.bad bad (ap f (c.in-Err-Bad.field-0-is ∙ ap (λ (b : Bad). BadStop b) same)) given rest told left
+    let same : Pcap c.in-Err-Bad.bad ≡ refusal = ap (λ (b : Bad). Pcap b) (sym c.in-Err-Bad.bad-is) ∙ same_bad _ refusal is in
+    subst (λ (r : Refusal). HoldsRefusal given rest r) same (c.in-Err-Bad.ensures.bad c.in-Err-Bad.bad (ap f c.in-Err-Bad.field-0-is) given rest told left)
+
+pub returns-in-Err-Ng-clause-bad : goal.returns-in-Err-Ng-clause-bad
+returns-in-Err-Ng-clause-bad g c = λ refusal is given rest told left.
+    let f : LoadStop → Result Capture LoadStop = λ s. Err s in
+    let same : Ng c.in-Err-Ng.bad ≡ refusal = ap (λ (b : NgBad). Ng b) (sym c.in-Err-Ng.bad-is) ∙ same_bad _ refusal is in
+    subst (λ (r : Refusal). HoldsRefusal given rest r) same (c.in-Err-Ng.ensures.ng c.in-Err-Ng.bad (ap f c.in-Err-Ng.field-0-is) given rest told left)
 
 pub returns-in-Err-write-clause-accepted_cut : goal.returns-in-Err-write-clause-accepted_cut
 returns-in-Err-write-clause-accepted_cut g c = λ is given rest told left.

@@ -1,4 +1,3 @@
-use Rattle.std.proofs.Common.{◌≡◌}
 use Rattle.octo_run.proofs.Ends.{done_end, fault_end}
 use Rattle.octo_run.proofs.Statuses.{fails_by}
 use Rattle.octo_run.proofs.frame.perform.Goals as goal

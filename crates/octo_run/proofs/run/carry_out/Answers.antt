@@ -1,4 +1,4 @@
-use Rattle.std.proofs.Common.{◌≡◌, sym, subst}
+use Rattle.std.proofs.Common.{sym, subst}
 use Rattle.octo_run.specs.Runs.{Spares}
 use Rattle.octo_run.proofs.Ends.{at_command, load_end, no_rise}
 use Rattle.words.specs.declared.command.Command.{Command}

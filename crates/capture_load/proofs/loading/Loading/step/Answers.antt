@@ -1,7 +1,18 @@
-use Rattle.std.proofs.Common.{refl}
-use Rattle.capture_load.proofs.Noted.{after_frame}
+use Rattle.std.proofs.Common.{subst, take}
+use Rattle.capture_load.specs.Loads.{StandsIn}
+use Rattle.capture_load.specs.declared.format.Format.{Format}
+use Rattle.capture_load.specs.declared.format.Format.TheVariants.{Pcap, Ng}
+use Rattle.capture_load.proofs.Formats.{other_stays}
+use Rattle.capture_load.proofs.Stepped.{ng_goes_on, pcap_goes_on}
 use Rattle.capture_load.proofs.loading.Loading.step.Goals as goal
 
-pub returns-in-Ok-clause-stepped : goal.returns-in-Ok-clause-stepped
-returns-in-Ok-clause-stepped c = λ bytes frames loads.
-    after_frame c.args.self.now _ _ bytes frames _ loads (c.in-Some.ensures.front bytes frames loads.stands) refl c.in-Ok.ensures.packets c.in-Ok.ensures.skipped
+pub returns-in-Pcap-clause-stepped : goal.returns-in-Pcap-clause-stepped
+returns-in-Pcap-clause-stepped c = λ bytes frames loads.
+    let stood : StandsIn (Pcap c.in-Pcap.reader) bytes frames = subst (λ (f : Format). StandsIn f bytes frames) c.in-Pcap.is loads.stands in
+    pcap_goes_on _ _ bytes _ frames (λ n lt. other_stays bytes (take n c.args.piece.now) stood.0) (other_stays bytes c.args.piece.now stood.0) c.step_pcap.result c.step_pcap.ensures.some
+    (c.step_pcap.ensures.stepped bytes frames (record { stands = stood.1; keeps = loads.keeps }))
+
+pub returns-in-Ng-clause-stepped : goal.returns-in-Ng-clause-stepped
+returns-in-Ng-clause-stepped c = λ bytes frames loads.
+    let stood : StandsIn (Ng c.in-Ng.reader) bytes frames = subst (λ (f : Format). StandsIn f bytes frames) c.in-Ng.is loads.stands in
+    ng_goes_on _ _ bytes _ frames stood.0 c.step_ng.result (c.step_ng.ensures.stepped bytes frames (record { stands = stood.1; keeps = loads.keeps }))
