@@ -8,6 +8,10 @@ mod captures;
 #[cfg(test)]
 mod faults;
 #[cfg(test)]
+mod gates;
+#[cfg(test)]
+mod in_threads;
+#[cfg(test)]
 mod refusals;
 #[cfg(test)]
 mod runs;
