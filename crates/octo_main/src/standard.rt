@@ -3,11 +3,12 @@ ghost use Rattle.std.specs.Process.{exit_status};
 ghost use Rattle.flow_base.specs.Codes.{code_of};
 
 use flow_base::{Status, StdSink, StdSource};
-use octo_run::{Fault, octo, tell};
+use octo_run::{Fault, OpenGate, octo, tell};
 use std::alloc::Global;
 use std::env::Env;
 use std::io::{ErrorKind, Input, Print, Write};
 use std::process::ExitCode;
+use std::sync::Wait;
 use std::thread::Threads;
 use std::{env, io};
 
@@ -28,7 +29,7 @@ fn exit_of(status: Status) -> ExitCode
 }
 
 /// Runs the program, and answers its exit code.
-pub fn program<R: Env + Alloc<A = Global> + Input + Print + Threads + Sync, W: Write + Drop>(
+pub fn program<R: Env + Alloc<A = Global> + Input + Print + Threads + Wait + Sync, W: Write + Drop>(
     rt: &R,
     error_output: W,
 ) -> ExitCode {
@@ -37,7 +38,15 @@ pub fn program<R: Env + Alloc<A = Global> + Input + Print + Threads + Sync, W: W
         Ok(words) => {
             let mut source = StdSource::new(rt.reader());
             let mut out = StdSink::new(io::writer(rt));
-            octo(rt, rt.alloc(), &words, &mut source, &mut out, &mut err)
+            octo(
+                rt,
+                rt.alloc(),
+                &words,
+                &mut source,
+                &mut out,
+                &mut err,
+                &OpenGate,
+            )
         }
         Err(error) if error.kind() == ErrorKind::OutOfMemory => tell(&mut err, Fault::NoMemory),
         Err(_) => tell(&mut err, Fault::Usage),

@@ -6,7 +6,6 @@ use Rattle.capture_load.specs.Capture.{CaptureOf, Refused, RefusesNext}
 use Rattle.capture_load.specs.declared.capture.Refusal.{Refusal}
 use Rattle.capture_load.proofs.Once.{refusal_stays}
 use Rattle.hash_rows.specs.Lawful.{IsLawful}
-use Rattle.hash_rows.specs.declared.options.Mode.TheVariants.{Rounds}
 use Rattle.words.specs.Options.{Gives, options_in}
 use Rattle.words.specs.Values.{NeedsNumber}
 use Rattle.words.specs.declared.command.Command.{Command}
@@ -42,6 +41,6 @@ needed None n p = absurd p
 needed (Some text) n p = p.2
 
 -- a command of the grammar can be carried out
-pub ready : (k : Command) (words : List (List ℕ)) → Gives words k → IsLawful (options_in k) → (options_in k).mode ≡ Rounds → IsReadyRun k
-ready (Run o) words gives lawful rounds = (lawful, rounds)
-ready (Load records start o) words gives lawful rounds = (lawful, rounds, needed _ records gives.2.3)
+pub ready : (k : Command) (words : List (List ℕ)) → Gives words k → IsLawful (options_in k) → IsReadyRun k
+ready (Run o) words gives lawful = lawful
+ready (Load records start o) words gives lawful = (lawful, needed _ records gives.2.3)

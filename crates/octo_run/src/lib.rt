@@ -10,6 +10,7 @@ mod results;
 mod rounds;
 mod run;
 mod task;
+mod threads;
 
 pub use capture_load::{Capture, GenSource, LoadStop, Refusal, load_capture};
 pub use faults::Fault;
@@ -17,4 +18,6 @@ pub use laws::{one_report, one_text};
 pub use lines::tell;
 pub use rounds::octo_rounds;
 pub use run::octo;
+pub use thread_engine::{Gate, OpenGate};
+pub use threads::octo_threads;
 pub use words::{Command, WordStop, read_words};

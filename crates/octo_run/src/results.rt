@@ -69,8 +69,8 @@ fn rounds_by<K: Kind, R: Threads + Sync>(
     results_from(alloc, capture, options, settled)
 }
 
-// The report of what was settled, and its lists.
-fn results_from<K: Kind>(
+/// The report of what was settled, and its lists.
+pub fn results_from<K: Kind>(
     alloc: Global,
     capture: &Capture,
     options: &Options,

@@ -1,11 +1,11 @@
 ghost use Rattle.std.specs.Prelude.{◌≡◌, ◌≢◌, ◌≤◌, ◌⊎◌, ℕ, List, string_bytes, map};
 ghost use Rattle.flow_base.specs.Causes.{Rose};
-ghost use Rattle.flow_base.specs.Flow.{behind};
+ghost use Rattle.flow_base.specs.Flow.{Given, behind};
 ghost use Rattle.hash_rows.specs.Lawful.{IsLawful};
 ghost use Rattle.capture_load.specs.Loads.{HoldsRefusal};
 ghost use Rattle.octo_run.specs.Ends.{CutShort, IsAccepted, IsEnd, IsTold, IsUnrefused, Reported, side};
 ghost use Rattle.octo_run.specs.Faults.{TellsLine, fault_line, status_of_bad};
-ghost use Rattle.octo_run.specs.Runs.{GivenFor, HasText, IsReadyRun, Leaves, Spares};
+ghost use Rattle.octo_run.specs.Runs.{GivenFor, HasText, IsReadyRun, IsRunText, Leaves, Spares};
 ghost use Rattle.octo_run.specs.declared.faults.Fault.{Fault};
 ghost use Rattle.capture_load.specs.declared.capture.Refusal.{Refusal};
 ghost use Rattle.hash_rows.specs.declared.options.Options.{Options};
@@ -15,20 +15,50 @@ ghost use Rattle.words.specs.declared.command.Command.{Command};
 use crate::faults::Fault;
 use crate::lines::tell;
 use crate::rounds::octo_rounds;
+use crate::threads::octo_threads;
 use capture_load::GenSource;
 use flow_base::{Sink, Source, Status};
+use hash_rows::{Mode, Options};
 use std::alloc::Global;
+use std::sync::Wait;
 use std::thread::Threads;
+use thread_engine::Gate;
 use words::{Command, WordStop, read_words};
 
+// Counts a capture in the options' mode.
+fn run_in_mode<R: Threads + Wait + Sync, S: Source, T: Sink, E: Sink, G: Gate>(
+    rt: &R,
+    alloc: Global,
+    options: &Options,
+    source: &mut S,
+    out: &mut T,
+    err: &mut E,
+    gate: &G,
+) -> Status
+    requires { IsLawful options.now }
+    ensures ended { IsEnd (Given (S.left source.old) (S.left source.new)) (IsRunText options.now)
+        (side (S.left source.old) (S.faults source.old)) (side (S.left source.new) (S.faults source.new))
+        (side (T.holds out.old) (T.faults out.old)) (side (T.holds out.new) (T.faults out.new))
+        (side (E.holds err.old) (E.faults err.old)) (side (E.holds err.new) (E.faults err.new)) result }
+    ensures front { (given : List ℕ) × (S.left source.old ≡ behind given (S.left source.new)) }
+    ensures quiet { result ≡ Status.Done → err.new ≡ err.old }
+    ensures untouched { result ≢ Status.Done → result ≢ Status.WriteFault → out.new ≡ out.old }
+{
+    match options.mode {
+        Mode::Rounds => octo_rounds(rt, alloc, options, source, out, err),
+        Mode::Threads => octo_threads(rt, alloc, options, source, out, err, gate),
+    }
+}
+
 // Does what the command says.
-fn carry_out<R: Threads + Sync, S: Source, T: Sink, E: Sink>(
+fn carry_out<R: Threads + Wait + Sync, S: Source, T: Sink, E: Sink, G: Gate>(
     rt: &R,
     alloc: Global,
     command: Command,
     source: &mut S,
     out: &mut T,
     err: &mut E,
+    gate: &G,
 ) -> Status
     requires { IsReadyRun command }
     ensures ended { IsEnd (GivenFor command (S.left source.old) (S.left source.new)) (HasText command)
@@ -42,27 +72,29 @@ fn carry_out<R: Threads + Sync, S: Source, T: Sink, E: Sink>(
     ensures spared { Spares command result }
 {
     match command {
-        Command::Run(options) => octo_rounds(rt, alloc, &options, source, out, err),
+        Command::Run(options) => run_in_mode(rt, alloc, &options, source, out, err, gate),
         Command::Load {
             records,
             start,
             options,
         } => {
             let mut generated = GenSource::new(records, start);
-            octo_rounds(rt, alloc, &options, &mut generated, out, err)
+            run_in_mode(rt, alloc, &options, &mut generated, out, err, gate)
         }
     }
 }
 
 /// Does all that the program does: `words` are those after the program's name. With `load` the
-/// bytes are generated, and nothing of the source is read.
-pub fn octo<R: Threads + Sync, S: Source, T: Sink, E: Sink>(
+/// bytes are generated, and nothing of the source is read. The gate is told of the steps of a run in
+/// threads.
+pub fn octo<R: Threads + Wait + Sync, S: Source, T: Sink, E: Sink, G: Gate>(
     rt: &R,
     alloc: Global,
     words: &[String],
     source: &mut S,
     out: &mut T,
     err: &mut E,
+    gate: &G,
 ) -> Status
     // Usage, exactly where the words aren't in the grammar. Nothing is read.
     ensures usage { result ≡ Status.Usage → (command : Command) → Gives (map string_bytes words.now) command → ⊥ }
@@ -99,6 +131,6 @@ pub fn octo<R: Threads + Sync, S: Source, T: Sink, E: Sink>(
     match read_words(alloc, words) {
         Err(WordStop::Usage) => tell(err, Fault::Usage),
         Err(WordStop::NoMemory) => tell(err, Fault::NoMemory),
-        Ok(command) => carry_out(rt, alloc, command, source, out, err),
+        Ok(command) => carry_out(rt, alloc, command, source, out, err, gate),
     }
 }

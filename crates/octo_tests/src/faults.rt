@@ -3,6 +3,7 @@
 use crate::runs::{SMOOTH, Ways, run};
 use flow_base::Status;
 use std::alloc::Global;
+use std::sync::Wait;
 use std::test::Fail;
 use std::thread::Threads;
 
@@ -14,7 +15,7 @@ const WITH_JOURNAL: &str =
     "run --rows 1 --columns 1 --workers 1 --threshold 1 --lane 1 --round 4 --readers 1 --asks 3 --least 5 --watch 10.0.0.1:1234>10.0.0.2:443/6 --journal";
 
 // How a run ends whose source gives pieces and fails at a call.
-fn end_of_reads<R: Threads + Sync>(
+fn end_of_reads<R: Threads + Wait + Sync>(
     rt: &R,
     alloc: Global,
     bytes: &str,
@@ -52,7 +53,7 @@ fn a_failing_read_ends_the_run(rt: HostRuntime) -> Result<(), Fail> {
 }
 
 // Whether a write that fails leaves just the lines before it.
-fn leaves_lines<R: Threads + Sync>(
+fn leaves_lines<R: Threads + Wait + Sync>(
     rt: &R,
     alloc: Global,
     words: &str,

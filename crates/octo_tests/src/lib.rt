@@ -12,6 +12,10 @@ mod captures;
 #[cfg(test)]
 mod faults;
 #[cfg(test)]
+mod gates;
+#[cfg(test)]
+mod in_threads;
+#[cfg(test)]
 mod pcapng;
 #[cfg(test)]
 mod refusals;

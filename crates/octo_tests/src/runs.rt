@@ -1,8 +1,9 @@
 use crate::captures::capture;
 use flow_base::{MemSink, MemSource, Status};
-use octo_run::octo;
+use octo_run::{Gate, OpenGate, octo};
 use std::alloc::{AllocError, Global};
 use std::process::Abort;
+use std::sync::Wait;
 use std::test::Fail;
 use std::thread::Threads;
 
@@ -38,12 +39,24 @@ pub const SMOOTH: Ways = Ways {
 };
 
 /// Runs octo on the words, which spaces part, and on the capture that a line of words names.
-pub fn run<R: Threads + Sync>(
+pub fn run<R: Threads + Wait + Sync>(
     rt: &R,
     alloc: Global,
     line: &str,
     bytes: &str,
     ways: Ways,
+) -> Result<Ended, Fail> {
+    run_gated(rt, alloc, line, bytes, ways, &OpenGate)
+}
+
+/// The same with a gate that is told of the steps of a run in threads.
+pub fn run_gated<R: Threads + Wait + Sync, G: Gate>(
+    rt: &R,
+    alloc: Global,
+    line: &str,
+    bytes: &str,
+    ways: Ways,
+    gate: &G,
 ) -> Result<Ended, Fail> {
     let bytes = capture(alloc, bytes)?;
     let words = words_of(alloc, line)?;
@@ -52,7 +65,15 @@ pub fn run<R: Threads + Sync>(
     let at_a_time = ways.at_a_time.max(1);
     let mut out = MemSink::in_pieces(alloc, ways.room, at_a_time, ways.failing_writes)?;
     let mut err = MemSink::new(alloc, 65536, ways.failing_lines)?;
-    let status = octo(rt, alloc, words.as_slice(), &mut source, &mut out, &mut err);
+    let status = octo(
+        rt,
+        alloc,
+        words.as_slice(),
+        &mut source,
+        &mut out,
+        &mut err,
+        gate,
+    );
     Ok(Ended { status, out, err })
 }
 
@@ -103,7 +124,7 @@ fn end_of(alloc: Global, end: &Ended) -> Result<String, Fail> {
 }
 
 /// Runs each case of a table, in which cases stand behind `== `.
-pub fn run_cases<R: Threads + Sync + Abort>(
+pub fn run_cases<R: Threads + Wait + Sync + Abort>(
     rt: &R,
     alloc: Global,
     table: &str,

@@ -3,6 +3,7 @@
 use crate::runs::{SMOOTH, run};
 use flow_base::Status;
 use std::alloc::Global;
+use std::sync::Wait;
 use std::test::Fail;
 use std::thread::Threads;
 
@@ -20,7 +21,7 @@ const WAYS: [&str; 9] = [
 ];
 
 // Whether these words give one report for all of them.
-fn is_one_report<R: Threads + Sync>(
+fn is_one_report<R: Threads + Wait + Sync>(
     rt: &R,
     alloc: Global,
     line: &str,

@@ -25,7 +25,7 @@ fn run(alloc: Global, words: &[&str]) -> Result<Options, Fail> {
 
 #[test]
 fn refuses_what_the_grammar_lacks(rt: HostRuntime) -> Result<(), Fail> {
-    let refused: [&[&str]; 27] = [
+    let refused: [&[&str]; 28] = [
         &[],
         &["walk"],
         &["run", "--threshold", "0"],
@@ -46,7 +46,8 @@ fn refuses_what_the_grammar_lacks(rt: HostRuntime) -> Result<(), Fail> {
         &["run", "--journal=x"],
         &["run", "--journal", "x"],
         &["run", "--journal", "--journal"],
-        &["run", "--mode", "threads"],
+        &["run", "--mode", "thread"],
+        &["run", "--mode="],
         &["run", "--records", "1"],
         &["load", "--records", "1"],
         &["run", "--sketch", "loglog", "--rows", "2"],
@@ -98,6 +99,29 @@ fn values_stand_behind_a_space_or_a_sign(rt: HostRuntime) -> Result<(), Fail> {
     let joined = run(rt.alloc(), &["run", "--share=key", "--rows=2"])?;
     assert_eq!(rt; (spaced.shape.rows, joined.shape.rows), (2, 2));
     assert_eq!(rt; (spaced.share, joined.share), (Share::Key, Share::Key));
+    Ok(())
+}
+
+#[test]
+fn a_mode_is_chosen(rt: HostRuntime) -> Result<(), Fail> {
+    for (words, mode) in [
+        (["run", "--mode=rounds"], Mode::Rounds),
+        (["run", "--mode=threads"], Mode::Threads),
+    ] {
+        assert_eq!(rt; run(rt.alloc(), &words)?.mode, mode);
+    }
+    let words = [
+        "load",
+        "--records=1",
+        "--start=0",
+        "--sketch=loglog",
+        "--mode",
+        "threads",
+    ];
+    match read(rt.alloc(), &words)? {
+        Some(Command::Load { options, .. }) => assert_eq!(rt; options.mode, Mode::Threads),
+        _ => return Err(Fail::from("no load")),
+    }
     Ok(())
 }
 

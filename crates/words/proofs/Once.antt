@@ -2,11 +2,13 @@
 use Rattle.std.proofs.Common.{◌≡◌, ◌∙◌, ◌<◌, ◌^◌, ℕ, refl, sym, ap, subst, arith, List, Option, Some, None, codes}
 use Rattle.std.specs.Prelude.{ℤ, pos}
 use Rattle.std.proofs.lemmas.Fmt.{decimal_injective}
-use Rattle.hash_rows.specs.OptionTexts.{amount_text, full_text, share_text, sketch_text}
+use Rattle.hash_rows.specs.OptionTexts.{amount_text, full_text, mode_text, share_text, sketch_text}
 use Rattle.hash_rows.specs.declared.options.Amount.{Amount}
 use Rattle.hash_rows.specs.declared.options.Amount.TheVariants.{Packets, Bytes}
 use Rattle.hash_rows.specs.declared.options.Full.{Full}
 use Rattle.hash_rows.specs.declared.options.Full.TheVariants.{Leave, Wait}
+use Rattle.hash_rows.specs.declared.options.Mode.{Mode}
+use Rattle.hash_rows.specs.declared.options.Mode.TheVariants.{Rounds, Threads}
 use Rattle.hash_rows.specs.declared.options.Options.{Options}
 use Rattle.hash_rows.specs.declared.options.Share.{Share}
 use Rattle.hash_rows.specs.declared.options.Share.TheVariants.{Turn, Key}
@@ -71,6 +73,13 @@ same_full Wait Wait e = refl
 same_full Leave Wait e = cc
 same_full Wait Leave e = cc
 
+same_mode : (s t : Mode) → mode_text s ≡ mode_text t → s ≡ t
+unfolding mode_text
+same_mode Rounds Rounds e = refl
+same_mode Threads Threads e = refl
+same_mode Rounds Threads e = cc
+same_mode Threads Rounds e = cc
+
 same_shape : (parts : List Part) (k : Sketch) (s t : Shape) → GivesShape parts k s → GivesShape parts k t → s ≡ t
 same_shape parts k s t g h =
     let rows = same_number 1 (most_rows k) (usual_rows k) _ s.rows t.rows (few k) g.rows h.rows in
@@ -101,7 +110,7 @@ same_options parts o d g h =
     let batch = same_number 1 1024 32 _ o.batch d.batch (omega arith) g.batch h.batch in
     let round = same_number 1 65536 64 _ o.round d.round (omega arith) g.round h.round in
     let full = same_choice full_text Leave _ o.full d.full same_full g.full h.full in
-    let mode = g.mode ∙ sym h.mode in
+    let mode = same_choice mode_text Rounds _ o.mode d.mode same_mode g.mode h.mode in
     let readers = same_number 0 4 0 _ o.readers d.readers (omega arith) g.readers h.readers in
     let asks = same_number 0 1024 0 _ o.asks d.asks (omega arith) g.asks h.asks in
     let items = same_watch _ o.watch.items d.watch.items g.watch h.watch in

@@ -27,5 +27,6 @@ line_names = an_option (codes "rows")
     ∷ an_option (codes "records")
     ∷ an_option (codes "start")
     ∷ an_option (codes "full")
+    ∷ an_option (codes "mode")
     ∷ a_flag (codes "journal")
     ∷ []

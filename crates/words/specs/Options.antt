@@ -1,7 +1,7 @@
 -- The commands that words give.
 use Rattle.std.specs.Prelude.{◌≡◌, ◌∷◌, ◌||◌, ℕ, Bool, true, not, List, None, is_some, codes}
 use Rattle.hash_rows.specs.Lawful.{IsRegisters}
-use Rattle.hash_rows.specs.OptionTexts.{amount_text, full_text, share_text, sketch_text}
+use Rattle.hash_rows.specs.OptionTexts.{amount_text, full_text, mode_text, share_text, sketch_text}
 use Rattle.hash_rows.specs.declared.options.Amount.TheVariants.{Packets}
 use Rattle.hash_rows.specs.declared.options.Full.TheVariants.{Leave}
 use Rattle.hash_rows.specs.declared.options.Mode.TheVariants.{Rounds}
@@ -59,7 +59,7 @@ pub record GivesOptions (parts : List Part) (o : Options) : Type 0 where
   pub batch : ReadsNumber 1 1024 32 (value_in (codes "batch") parts) o.batch
   pub round : ReadsNumber 1 65536 64 (value_in (codes "round") parts) o.round
   pub full : ReadsChoice full_text Leave (value_in (codes "full") parts) o.full
-  pub mode : o.mode ≡ Rounds
+  pub mode : ReadsChoice mode_text Rounds (value_in (codes "mode") parts) o.mode
   pub readers : ReadsNumber 0 4 0 (value_in (codes "readers") parts) o.readers
   pub asks : ReadsNumber 0 1024 0 (value_in (codes "asks") parts) o.asks
   pub watch : ReadsKeys (value_in (codes "watch") parts) o.watch.items

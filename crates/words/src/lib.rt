@@ -1,5 +1,5 @@
 //! The grammar of the command line, and its reading through `clap`. A command is `run` or `load`
-//! with options; the options' mode is always `Rounds`, for which the grammar has no word.
+//! with options.
 #![tactic(auto)]
 
 mod command;

@@ -6,10 +6,10 @@ ghost use Rattle.words.specs.Values.{Finds, ReadsKeys};
 ghost use Rattle.words.specs.Options.{GivesOptions, GivesShape, HasRegisters, most_rows, usual_rows, usual_threshold, suits};
 
 use crate::values::{
-    amount_or, full_or, is_registers, least_or, number_or, share_or, sketch_or, small_or,
+    amount_or, full_or, is_registers, least_or, mode_or, number_or, share_or, sketch_or, small_or,
 };
 use clap::ArgMatches;
-use hash_rows::{Keys, Mode, Options, Shape, Sketch};
+use hash_rows::{Keys, Options, Shape, Sketch};
 
 fn most_rows(sketch: Sketch) -> u32
     ensures { result ≡ most_rows sketch }
@@ -102,7 +102,7 @@ pub(crate) fn options_of(matches: &ArgMatches<'_>, watch: Keys) -> Option<Option
         batch: small_or(matches.get_str("batch"), 1, 1024, 32)?,
         round: small_or(matches.get_str("round"), 1, 65536, 64)?,
         full: full_or(matches.get_str("full"))?,
-        mode: Mode::Rounds,
+        mode: mode_or(matches.get_str("mode"))?,
         readers: small_or(matches.get_str("readers"), 0, 4, 0)?,
         asks: small_or(matches.get_str("asks"), 0, 1024, 0)?,
         heavy: small_or(matches.get_str("heavy"), 1, 1024, 64)?,

@@ -12,7 +12,7 @@ use clap::error::ErrorKind;
 use clap::{Arg, ArgAction, ArgMatches, Command as Parser};
 use std::alloc::{AllocError, Global};
 
-static OPTIONS: [&str; 18] = [
+static OPTIONS: [&str; 19] = [
     "rows",
     "columns",
     "threshold",
@@ -31,6 +31,7 @@ static OPTIONS: [&str; 18] = [
     "records",
     "start",
     "full",
+    "mode",
 ];
 
 static FLAGS: [&str; 1] = ["journal"];

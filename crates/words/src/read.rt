@@ -12,7 +12,7 @@ use crate::values::number_of;
 use crate::watch::keys_or;
 use crate::{Command, WordStop};
 use clap::ArgMatches;
-use hash_rows::{Mode, Options};
+use hash_rows::Options;
 use std::alloc::Global;
 
 /// The command that the words give; the program's name is not among them. `Usage` comes exactly
@@ -21,7 +21,6 @@ pub fn read_words(alloc: Global, words: &[String]) -> Result<Command, WordStop>
     ensures ok { IfOk result (Gives (map string_bytes words.now)) }
     ensures once { IfOk result (λ c. (d : Command) → Gives (map string_bytes words.now) d → c ≡ d) }
     ensures lawful { IfOk result (λ c. IsLawful (options_in c)) }
-    ensures rounds { IfOk result (λ c. (options_in c).mode ≡ Mode.Rounds) }
     ensures usage { IfErr result (λ e. e ≡ WordStop.Usage → (c : Command) → Gives (map string_bytes words.now) c → ⊥) }
 {
     let Some((first, rest)) = words.split_first() else {

@@ -1,11 +1,11 @@
 ghost use Rattle.std.specs.Prelude.{◌≡◌, true, false};
 ghost use Rattle.std.specs.Option.{option_copied};
 ghost use Rattle.hash_rows.specs.Lawful.{IsRegisters};
-ghost use Rattle.hash_rows.specs.OptionTexts.{sketch_text, amount_text, share_text, full_text};
+ghost use Rattle.hash_rows.specs.OptionTexts.{sketch_text, amount_text, share_text, full_text, mode_text};
 ghost use Rattle.words.specs.Values.{Finds, IsNumberIn, ReadsNumber, NeedsNumber, ReadsInteger, ReadsChoice};
 ghost use Rattle.words.specs.Forms.{is_plain};
 
-use hash_rows::{Amount, Full, Share, Sketch};
+use hash_rows::{Amount, Full, Mode, Share, Sketch};
 
 // Whether the text has a first byte, which is no sign, and no zero before another byte.
 fn is_plain(text: &str) -> bool
@@ -128,6 +128,20 @@ pub(crate) fn full_or(text: Option<&str>) -> Option<Full>
     match text {
         "leave" => Some(Full::Leave),
         "wait" => Some(Full::Wait),
+        _ => None,
+    }
+}
+
+#[tactic(auto, unfolding(hash_rows::specs::OptionTexts::mode_text))]
+pub(crate) fn mode_or(text: Option<&str>) -> Option<Mode>
+    ensures { Finds (ReadsChoice mode_text Mode.Rounds (option_copied text.entry)) result }
+{
+    let Some(text) = text else {
+        return Some(Mode::Rounds);
+    };
+    match text {
+        "rounds" => Some(Mode::Rounds),
+        "threads" => Some(Mode::Threads),
         _ => None,
     }
 }

@@ -7,14 +7,14 @@ use Rattle.octo_run.proofs.run.carry_out.Goals as goal
 
 pub returns-in-Run-clause-ended : goal.returns-in-Run-clause-ended
 returns-in-Run-clause-ended g c =
-    at_command c.args.command (Run c.in-Run.options) (g.S.Source.left c.args.source.now) (g.S.Source.left c.octo_rounds.new.source) _ _ _ _ _ _ _ c.in-Run.is c.octo_rounds.ensures.ended
+    at_command c.args.command (Run c.in-Run.options) (g.S.Source.left c.args.source.now) (g.S.Source.left c.run_in_mode.new.source) _ _ _ _ _ _ _ c.in-Run.is c.run_in_mode.ensures.ended
 
 pub returns-in-Load-clause-ended : goal.returns-in-Load-clause-ended
 returns-in-Load-clause-ended g c =
-    let run = c.octo_rounds-in-Load in
+    let run = c.run_in_mode-in-Load in
     at_command c.args.command (Load c.in-Load.records c.in-Load.start c.in-Load.options) (g.S.Source.left c.args.source.now) (g.S.Source.left c.args.source.now) _ _ _ _ _ _ _ c.in-Load.is
     (load_end c.in-Load.records c.in-Load.start _ _ run.ensures.front.0 c.new-generated.ensures run.ensures.front.1 _ _ _ _ _ _ _ _ run.ensures.ended)
 
 pub returns-in-Load-clause-spared : goal.returns-in-Load-clause-spared
 returns-in-Load-clause-spared g c =
-    subst (λ (k : Command). Spares k c.octo_rounds-in-Load.result) (sym c.in-Load.is) (λ is. no_rise (c.octo_rounds-in-Load.ensures.ended.read is))
+    subst (λ (k : Command). Spares k c.run_in_mode-in-Load.result) (sym c.in-Load.is) (λ is. no_rise (c.run_in_mode-in-Load.ensures.ended.read is))

@@ -8,7 +8,7 @@ use Rattle.octo_run.proofs.Commands.{ready}
 use Rattle.octo_run.proofs.run.octo.Goals as goal
 
 pub carry_out-requires : goal.carry_out-requires
-carry_out-requires g c = (search rules, ready c.in-Ok.command _ c.in-Ok.ensures.ok c.in-Ok.ensures.lawful c.in-Ok.ensures.rounds)
+carry_out-requires g c = (search rules, (search rules, ready c.in-Ok.command _ c.in-Ok.ensures.ok c.in-Ok.ensures.lawful))
 
 pub returns-in-Ok-clause-done : goal.returns-in-Ok-clause-done
 returns-in-Ok-clause-done g c = λ is command gives.

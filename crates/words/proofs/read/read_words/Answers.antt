@@ -13,9 +13,6 @@ returns-in-run-clause-once c =
 pub returns-in-run-clause-lawful : goal.returns-in-run-clause-lawful
 returns-in-run-clause-lawful c = IfOk-weaker c.read_run.result _ _ (λ d ok. let g = run_options _ d ok in lawful g.0 (options_in d) g.1) c.read_run.ensures.ok
 
-pub returns-in-run-clause-rounds : goal.returns-in-run-clause-rounds
-returns-in-run-clause-rounds c = IfOk-weaker c.read_run.result _ _ (λ d ok. (run_options _ d ok).1.mode) c.read_run.ensures.ok
-
 pub returns-in-run-clause-usage : goal.returns-in-run-clause-usage
 returns-in-run-clause-usage c =
     let words : map string_bytes c.args.words.now ≡ codes "run" ∷ map string_bytes c.in-Some.rest.now = search rules in
@@ -28,9 +25,6 @@ returns-in-load-clause-once c =
 
 pub returns-in-load-clause-lawful : goal.returns-in-load-clause-lawful
 returns-in-load-clause-lawful c = IfOk-weaker c.read_load.result _ _ (λ d ok. let g = load_options _ d ok in lawful g.0 (options_in d) g.1) c.read_load.ensures.ok
-
-pub returns-in-load-clause-rounds : goal.returns-in-load-clause-rounds
-returns-in-load-clause-rounds c = IfOk-weaker c.read_load.result _ _ (λ d ok. (load_options _ d ok).1.mode) c.read_load.ensures.ok
 
 pub returns-in-load-clause-usage : goal.returns-in-load-clause-usage
 returns-in-load-clause-usage c =

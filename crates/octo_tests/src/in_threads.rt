@@ -1,0 +1,72 @@
+// Runs in threads: one report in both modes, and journals that no schedule changes.
+
+use crate::runs::{SMOOTH, run, run_cases};
+use flow_base::Status;
+use std::test::Fail;
+
+const UNREFUSED: &str = "== a lane that is never full refuses nothing
+run --sketch count-sketch --rows 1 --columns 1 --workers 1 --threshold 1 --least 5 --mode threads --journal
+LH 6*tcp
+0
+octosketch report 1
+sketch count-sketch rows 1 columns 1 amount packets
+records 6
+keyed 6
+skipped short 0 notip 0 badip 0 tags 0
+cut 0
+total 6
+row 0 used 1
+heavy 1
+flow 10.0.0.1:1234>10.0.0.2:443/6 6
+end
+octosketch journal 1
+options sketch count-sketch rows 1 columns 1 amount packets share turn workers 1 threshold 1 lane 64 batch 32 round 64 full leave mode threads readers 0 asks 0 heavy 64 least 5
+worker 0 pushes 6 refused 0
+live 10.0.0.1:1234>10.0.0.2:443/6
+missed 0
+end
+== a push that waits is never refused
+run --full wait --rows 1 --columns 1 --workers 1 --threshold 1 --lane 1 --least 5 --mode threads --journal
+LH 6*tcp
+0
+octosketch report 1
+sketch count-min rows 1 columns 1 amount packets
+records 6
+keyed 6
+skipped short 0 notip 0 badip 0 tags 0
+cut 0
+total 6
+row 0 used 1
+heavy 1
+flow 10.0.0.1:1234>10.0.0.2:443/6 6
+end
+octosketch journal 1
+options sketch count-min rows 1 columns 1 amount packets share turn workers 1 threshold 1 lane 1 batch 32 round 64 full wait mode threads readers 0 asks 0 heavy 64 least 5
+worker 0 pushes 6 refused 0
+live 10.0.0.1:1234>10.0.0.2:443/6
+missed 0
+end
+";
+
+#[test]
+fn no_schedule_changes_these_journals(rt: HostRuntime) -> Result<(), Fail> {
+    for _ in 0..20 {
+        assert_eq!(rt; run_cases(&rt, rt.alloc(), UNREFUSED)?, 2);
+    }
+    Ok(())
+}
+
+#[test]
+fn both_modes_have_one_report(rt: HostRuntime) -> Result<(), Fail> {
+    let line = "load --records 65536 --start 7 --workers 4 --readers 2 --asks 100";
+    let first = run(&rt, rt.alloc(), line, "", SMOOTH)?;
+    assert_eq!(rt; first.status, Status::Done);
+    for _ in 0..20 {
+        for mode in ["rounds", "threads"] {
+            let words = format!(in rt.alloc(); "{line} --mode {mode}")?;
+            let other = run(&rt, rt.alloc(), words.as_str(), "", SMOOTH)?;
+            assert!(rt; other.out.held() == first.out.held(), "{mode}");
+        }
+    }
+    Ok(())
+}
