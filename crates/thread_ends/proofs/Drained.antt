@@ -1,8 +1,9 @@
 -- One more message of a lane that is drained.
-use Rattle.std.proofs.Common.{◌≡◌, ◌≢◌, ◌<◌, ◌≤◌, ℕ, zero, suc, true, List, [], ◌∷◌, ◌++◌, length, map, set, get_or, refl, sym, ap, subst, ◌∙◌, arith, append_assoc, append-nil, slice_get}
+use Rattle.std.proofs.Common.{inl, inr, ◌+◌, ◌≡◌, ◌≢◌, ◌<◌, ◌≤◌, ℕ, zero, suc, true, List, [], ◌∷◌, ◌++◌, length, map, set, get_or, refl, sym, ap, subst, ◌∙◌, arith, append_assoc, append-nil, slice_get}
 use Rattle.std.specs.Prelude.{All, Some, None, Option, MatchOption}
 use Rattle.std.proofs.Math.Seq.{map-set_same}
-use Rattle.std.proofs.lemmas.List.{map-set, get_or-map, get_or-set_other, get_or-set_same, get_or_push, get_or_append_left, length-map, length-append, length_push}
+use Rattle.std.proofs.lemmas.List.{map-set, get_or-map, get_or-set_other, get_or-set_same, get_or_push, get_or_append_left, length-map, length-append, length_push, ext_get_or}
+use Rattle.std.proofs.lemmas.Bool.{cases_eq}
 use Rattle.std.proofs.lemmas.List.Elements.{All-set}
 use Rattle.std.proofs.lemmas.Option.{get_or_from_slice_get, slice_get_within}
 use Rattle.hash_rows.specs.declared.shape.Push.{Push}
@@ -129,10 +130,42 @@ module _ (a b : List BothView) (place : ℕ) (m : Push) (within : place < length
       let at = all (length t) m (omega (arith, lt, length-append (t ++ m ∷ []) rest)) in
       (subst P (get_or_append_left (t ++ m ∷ []) rest m (length t) lt ∙ get_or_push t m m (length t) refl) at).1
 
-  pub taken_one : (r : Rules) (v w : WriterView) → AreTaken r v.layout (both_takens a) (kept_in v) → w.layout ≡ v.layout → w.published ≡ v.published → w.pending ≡ v.pending ++ m ∷ []
-      → fits r v.layout m ≡ true → AreTaken r w.layout (both_takens b) (kept_in w)
-  taken_one r v w before layout published pending fit =
-      let more : kept_in w ≡ kept_in v ++ m ∷ [] = ap (λ (l : List Push). l ++ w.pending) published ∙ ap (λ (l : List Push). v.published ++ l) pending ∙ sym (append_assoc v.published v.pending (m ∷ [])) in
-      subst (λ (l : Layout). AreTaken r l (both_takens b) (kept_in w)) (sym layout)
-      (subst (λ (ls : List (List Push)). AreTaken r v.layout ls (kept_in w)) (sym took)
-      (taken_more (both_takens a) place m inside r v.layout (kept_in v) before (kept_in w) true (sym fit) more))
+  pub taken_one : (r : Rules) (l k : Layout) (messages after : List Push) → AreTaken r l (both_takens a) messages → k ≡ l → after ≡ messages ++ m ∷ [] → fits r l m ≡ true
+      → AreTaken r k (both_takens b) after
+  taken_one r l k messages after before layout more fit =
+      subst (λ (n : Layout). AreTaken r n (both_takens b) after) (sym layout)
+      (subst (λ (ls : List (List Push)). AreTaken r l ls after) (sym took)
+      (taken_more (both_takens a) place m inside r l messages before after true (sym fit) more))
+
+-- nothing more was taken
+pub taken_same : (r : Rules) (l : Layout) (a b : List BothView) (messages : List Push) → both_takens b ≡ both_takens a → AreTaken r l (both_takens a) messages → AreTaken r l (both_takens b) messages
+taken_same r l a b messages same before = subst (λ (ls : List (List Push)). AreTaken r l ls messages) (sym same) before
+
+-- what the writer has after a message was appended, and after none was
+pub kept_more : (v w : WriterView) (m : Push) → w.published ≡ v.published → w.pending ≡ v.pending ++ m ∷ [] → kept_in w ≡ kept_in v ++ m ∷ []
+kept_more v w m published pending =
+    ap (λ (l : List Push). l ++ w.pending) published ∙ ap (λ (l : List Push). v.published ++ l) pending ∙ sym (append_assoc v.published v.pending (m ∷ []))
+
+pub kept_same : (v w : WriterView) → w.published ≡ v.published → w.pending ≡ v.pending → kept_in w ≡ kept_in v
+kept_same v w published pending = ap (λ (l : List Push). l ++ w.pending) published ∙ ap (λ (l : List Push). v.published ++ l) pending
+
+-- one lane more is drained
+pub drained_next : (a b : List BothView) (place : ℕ) → ((k : ℕ) → k ≢ place → taken_at (both_takens b) k ≡ taken_at (both_takens a) k) → KeepLists a b
+    → taken_at (both_takens b) place ≡ taken_at (both_sents b) place → ((k : ℕ) → k < place → taken_at (both_takens a) k ≡ taken_at (both_sents a) k)
+    → (k : ℕ) → k < place + 1 → taken_at (both_takens b) k ≡ taken_at (both_sents b) k
+drained_next a b place others kept here before k lt = elim (cases_eq k place) [
+  | inl same ↦ subst (λ (n : ℕ). taken_at (both_takens b) n ≡ taken_at (both_sents b) n) (sym same) here
+  | inr apart ↦ others k apart ∙ before k (omega (arith, lt, apart)) ∙ sym (ap (λ (l : List (List Push)). taken_at l k) kept.sents)
+]
+
+-- all lanes are drained
+pub drained_all : (passes : List BothView) (n : ℕ) → length passes ≤ n → ((k : ℕ) → k < n → taken_at (both_takens passes) k ≡ taken_at (both_sents passes) k) → both_takens passes ≡ both_sents passes
+drained_all passes n all each =
+    let takens_len = length-map passes (λ (b : BothView). b.taken) in
+    let sents_len = length-map passes (λ (b : BothView). b.sent) in
+    ext_get_or [] (both_takens passes) (both_sents passes) (omega (arith, takens_len, sents_len)) (λ k lt. each k (omega (arith, lt, takens_len, all)))
+
+-- what was sent is still named, as it is the same
+pub named_still : (r : Rules) (a b : List BothView) (v w : WriterView) → KeepLists a b → KeepsPublished v w → AreNamed r v.layout (both_sents a) → AreNamed r w.layout (both_sents b)
+named_still r a b v w kept same named =
+    subst (λ (l : Layout). AreNamed r l (both_sents b)) (sym same.layout) (subst (AreNamed r v.layout) (sym kept.sents) named)

@@ -3,6 +3,7 @@ use Rattle.std.proofs.Common.{◌≡◌, ◌<◌, ◌≤◌, ◌+◌, ℕ, suc, 
 use Rattle.std.proofs.Math.ListN.{drop_of_length-le}
 use Rattle.std.proofs.lemmas.List.{map-append, length_push, length-map, length-drop}
 use Rattle.std.proofs.lemmas.List.Elements.{All-push}
+use Rattle.push_lane.specs.Rule.{StartsWith}
 use Rattle.push_lane.specs.Views.{BothView, InView, LaneView, OutView, TableId}
 use Rattle.push_rule.specs.Stands.{PrivateView}
 use Rattle.aggregate.specs.Takens.{AreEnds, takens}
@@ -109,7 +110,7 @@ module _ {K H : Type 0} where
       sents = moved (λ (b : BothView). b.sent) sent_of passes one left rest w e is.sent_is ∙ h.sents;
       fulls = moved (λ (b : BothView). b.fulls) fulls_of passes one left rest w e is.fulls ∙ h.fulls;
       taken = moved (λ (b : BothView). b.taken) (λ (x : OutView). x.taken) passes one outs_left outs_rest o f is.taken_is ∙ h.taken;
-      order = All-push _ passes one h.order is.order;
+      order = All-push (λ (b : BothView). StartsWith b.sent b.taken) passes one h.order is.order;
       passes_len = omega (arith, length_push passes one, h.passes_len);
       sketches_len = omega (arith, length_push sketches w.sketch, h.sketches_len);
     }

@@ -1,8 +1,7 @@
 //! What is left in the lanes goes to the writer.
-ghost use Rattle.std.specs.Prelude.{◌≡◌, ◌<◌, ◌++◌, [], ◌∷◌, All, length, map, MatchOption, OnErr, OnOk};
+ghost use Rattle.std.specs.Prelude.{◌≡◌, ◌≢◌, ◌<◌, ℕ, ◌++◌, [], ◌∷◌, length, MatchOption, OnErr, OnOk};
 ghost use Rattle.aggregate.specs.Takens.{AreNamed, AreTaken, taken_at};
 ghost use Rattle.hash_rows.specs.declared.shape.Push.{Push};
-ghost use Rattle.push_lane.specs.Rule.{StartsWith};
 ghost use Rattle.thread_ends.specs.Ends.{AreOf, HaveOrder, KeepLists, KeepsPublished, both_sents, both_takens, kept_in, with_message};
 
 use flow_base::NoMemory;

@@ -1,8 +1,7 @@
 //! The two ends of each lane become one.
 ghost use Rattle.std.specs.Prelude.{◌≡◌, ◌<◌, ◌≤◌, ℕ, [], ◌∷◌, ◌++◌, length, map, slice_index_or};
 ghost use Rattle.aggregate.specs.Takens.{AreEnds};
-ghost use Rattle.push_lane.specs.Rule.{StartsWith};
-ghost use Rattle.push_lane.specs.Views.{LaneView};
+ghost use Rattle.push_lane.specs.Views.{BothView, LaneView};
 ghost use Rattle.thread_ends.specs.Ends.{AreOne, IsOne};
 
 use aggregate::OutPasses;
@@ -25,7 +24,7 @@ fn take_in_one<K: Kind, R: Wait>(
     requires ids { (worker.pass.id ≡ lane.now.id) × (out.id ≡ lane.now.id) }
     requires room { (length passes.old.items < passes.old.room) × (length sketches.old.items < sketches.old.room) }
     ensures sketch { sketches.new.items ≡ sketches.old.items ++ worker.sketch ∷ [] }
-    ensures pass { (one : _) × (passes.new.items ≡ passes.old.items ++ one ∷ []) × IsOne lane.now worker.pass out one }
+    ensures pass { (one : BothView) × (passes.new.items ≡ passes.old.items ++ one ∷ []) × IsOne lane.now worker.pass out one }
     ensures room { (passes.new.room ≡ passes.old.room) × (sketches.new.room ≡ sketches.old.room) }
 {
     let WorkerPart {
