@@ -1,6 +1,6 @@
 -- One more message of a lane that is drained.
 use Rattle.std.proofs.Common.{inl, inr, ◌+◌, ◌≡◌, ◌≢◌, ◌<◌, ◌≤◌, ℕ, zero, suc, true, List, [], ◌∷◌, ◌++◌, length, map, set, get_or, refl, sym, ap, subst, ◌∙◌, arith, append_assoc, append-nil, slice_get}
-use Rattle.std.specs.Prelude.{All, Some, None, Option, MatchOption}
+use Rattle.std.specs.Prelude.{All, Some, None, Option, MatchOption, Result, Ok, Err, OnErr}
 use Rattle.std.proofs.Math.Seq.{map-set_same}
 use Rattle.std.proofs.lemmas.List.{map-set, get_or-map, get_or-set_other, get_or-set_same, get_or_push, get_or_append_left, length-map, length-append, length_push, ext_get_or}
 use Rattle.std.proofs.lemmas.Bool.{cases_eq}
@@ -169,3 +169,8 @@ drained_all passes n all each =
 pub named_still : (r : Rules) (a b : List BothView) (v w : WriterView) → KeepLists a b → KeepsPublished v w → AreNamed r v.layout (both_sents a) → AreNamed r w.layout (both_sents b)
 named_still r a b v w kept same named =
     subst (λ (l : Layout). AreNamed r l (both_sents b)) (sym same.layout) (subst (AreNamed r v.layout) (sym kept.sents) named)
+
+-- what holds after want of memory
+pub at_err : {A E : Type 0} (P : Type 0) (r : Result A E) → P → OnErr r P
+at_err P (Ok a) p = tt
+at_err P (Err e) p = p

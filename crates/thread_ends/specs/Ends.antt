@@ -1,7 +1,8 @@
 -- Lanes whose two ends are one.
 use Rattle.std.specs.Prelude.{◌≡◌, ℕ, List, [], ◌∷◌, ◌++◌, All, map, slice_set}
 use Rattle.hash_rows.specs.declared.shape.Push.{Push}
-use Rattle.aggregate.specs.Takens.{taken_at, takens}
+use Rattle.hash_rows.specs.Rules.{Rules}
+use Rattle.aggregate.specs.Takens.{AreTaken, taken_at, takens}
 use Rattle.live_view.specs.Views.{WriterView}
 use Rattle.push_lane.specs.Rule.{StartsWith}
 use Rattle.push_lane.specs.Views.{BothView, InView, LaneView, OutView}
@@ -59,6 +60,14 @@ pub record KeepsPublished (old new : WriterView) : Type 0 where
 -- what the writer published, and what it will publish next
 abbrev pub kept_in : WriterView → List Push
 kept_in w = w.published ++ w.pending
+
+-- the writer has what was taken of the lanes
+abbrev pub HasAll : Rules → List BothView → WriterView → Type 0
+HasAll r passes w = AreTaken r w.layout (both_takens passes) (kept_in w)
+
+-- the writer has what was taken of the lanes, but for the last message
+abbrev pub LacksLast : Rules → List BothView → WriterView → Type 0
+LacksLast r passes w = (m : Push) × AreTaken r w.layout (both_takens passes) (kept_in w ++ m ∷ [])
 
 -- the lists with one message more at the place
 abbrev pub with_message : List (List Push) → ℕ → Push → List (List Push)

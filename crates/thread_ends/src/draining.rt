@@ -1,8 +1,7 @@
 //! What is left in the lanes goes to the writer.
-ghost use Rattle.std.specs.Prelude.{◌≡◌, ◌≢◌, ◌<◌, ℕ, ◌++◌, [], ◌∷◌, length, MatchOption, OnErr, OnOk};
-ghost use Rattle.aggregate.specs.Takens.{AreNamed, AreTaken, taken_at};
-ghost use Rattle.hash_rows.specs.declared.shape.Push.{Push};
-ghost use Rattle.thread_ends.specs.Ends.{AreOf, HaveOrder, KeepLists, KeepsPublished, both_sents, both_takens, kept_in, with_message};
+ghost use Rattle.std.specs.Prelude.{◌≡◌, ◌≢◌, ◌<◌, ℕ, length, MatchOption, OnErr, OnOk};
+ghost use Rattle.aggregate.specs.Takens.{AreNamed, taken_at};
+ghost use Rattle.thread_ends.specs.Ends.{AreOf, HasAll, HaveOrder, KeepLists, KeepsPublished, LacksLast, both_sents, both_takens, with_message};
 
 use flow_base::NoMemory;
 use hash_rows::{Kind, Push};
@@ -46,10 +45,8 @@ fn drain_lane<K: Kind, R: Wait>(
     ensures same { KeepsPublished writer.old writer.new }
     ensures kept { KeepLists passes.old.items passes.new.items }
     ensures order { HaveOrder passes.new.items }
-    ensures taken { OnOk result (AreTaken K.rules writer.old.layout (both_takens passes.old.items) (kept_in writer.old)
-        → AreTaken K.rules writer.new.layout (both_takens passes.new.items) (kept_in writer.new)) }
-    ensures lost { OnErr result ((m : Push) × (AreTaken K.rules writer.old.layout (both_takens passes.old.items) (kept_in writer.old)
-        → AreTaken K.rules writer.new.layout (both_takens passes.new.items) (kept_in writer.new ++ m ∷ []))) }
+    ensures taken { OnOk result (HasAll K.rules passes.old.items writer.old → HasAll K.rules passes.new.items writer.new) }
+    ensures lost { OnErr result (HasAll K.rules passes.old.items writer.old → LacksLast K.rules passes.new.items writer.new) }
     ensures drained { OnOk result (taken_at (both_takens passes.new.items) place ≡ taken_at (both_sents passes.new.items) place) }
     ensures others { (k : ℕ) → k ≢ place → taken_at (both_takens passes.new.items) k ≡ taken_at (both_takens passes.old.items) k }
 {
@@ -76,10 +73,8 @@ pub fn drain_all<K: Kind, R: Wait>(
     ensures same { KeepsPublished writer.old writer.new }
     ensures kept { KeepLists passes.old.items passes.new.items }
     ensures order { HaveOrder passes.new.items }
-    ensures taken { OnOk result (AreTaken K.rules writer.old.layout (both_takens passes.old.items) (kept_in writer.old)
-        → AreTaken K.rules writer.new.layout (both_takens passes.new.items) (kept_in writer.new)) }
-    ensures lost { OnErr result ((m : Push) × (AreTaken K.rules writer.old.layout (both_takens passes.old.items) (kept_in writer.old)
-        → AreTaken K.rules writer.new.layout (both_takens passes.new.items) (kept_in writer.new ++ m ∷ []))) }
+    ensures taken { OnOk result (HasAll K.rules passes.old.items writer.old → HasAll K.rules passes.new.items writer.new) }
+    ensures lost { OnErr result (HasAll K.rules passes.old.items writer.old → LacksLast K.rules passes.new.items writer.new) }
     ensures drained { OnOk result (both_takens passes.new.items ≡ both_sents passes.new.items) }
 {
     for place in 0..passes.len() {
