@@ -1,4 +1,4 @@
-use Rattle.std.proofs.Common.{◌≡◌, ◌<◌, ◌≤◌, ◌++◌, ◌∷◌, [], List, length, ◌∙◌, sym, ap, subst, arith, rules}
+use Rattle.std.proofs.Common.{◌≡◌, ◌<◌, ◌≤◌, ◌++◌, ◌∷◌, [], List, length, ◌∙◌, sym, ap, subst, arith}
 use Rattle.std.specs.Prelude.{All}
 use Rattle.std.specs.List.{flat_map}
 use mathlib.Core.List.{IsPrefix}
@@ -11,8 +11,23 @@ use Rattle.live_view.specs.Views.{WriterView}
 use Rattle.thread_ends.proofs.Gathered.{IsOfPair, KnowsFront, as_it_is, at_turn, gives, room_for}
 use Rattle.thread_ends.proofs.answering.gather_answers.Goals as goal
 
-pub gather_one-requires : goal.gather_one-requires
-gather_one-requires g c =
+pub gather_one-requires-clause-pair : goal.gather_one-requires-clause-pair
+gather_one-requires-clause-pair g c κs within =
+    let h = c.loop-part.invariant in
+    let readers = c.args.readers.items in
+    let yielded = c.loop-part.yielded in
+    let part = c.in-Some.part in
+    let road = YieldsList-from_vec readers (cc) (cc) in
+    let turn = YieldsList-turn road yielded c.loop-part.part-iterator c.loop-part.yielded_by c.next.result c.next.new.self part c.in-Some.is c.next.ensures.steps in
+    let pair = at_turn (IsOfPair c.args.writer.now) readers (length yielded) part c.requires.pair turn in
+    (pair.0 ∙ ap (λ (w : WriterView). w.book) (sym h.writer), pair.1 ∙ ap (λ (w : WriterView). w.layout) (sym h.writer))
+
+pub gather_one-requires-clause-room : goal.gather_one-requires-clause-room
+gather_one-requires-clause-room g c κs within =
+    subst (λ (w : WriterView). HasRoomFor w.layout.workers c.args.keys.now c.loop-part.last) (sym c.loop-part.invariant.writer) c.loop-part.invariant.room
+
+pub gather_one-requires-clause-answers_room : goal.gather_one-requires-clause-answers_room
+gather_one-requires-clause-answers_room g c κs within =
     let h = c.loop-part.invariant in
     let readers = c.args.readers.items in
     let yielded = c.loop-part.yielded in
@@ -20,14 +35,9 @@ gather_one-requires g c =
     let road = YieldsList-from_vec readers (cc) (cc) in
     let turn = YieldsList-turn road yielded c.loop-part.part-iterator c.loop-part.yielded_by c.next.result c.next.new.self part c.in-Some.is c.next.ensures.steps in
     let so_far = YieldsList-so_far road yielded c.loop-part.part-iterator c.loop-part.yielded_by in
-    let pair = at_turn (IsOfPair c.args.writer.now) readers (length yielded) part c.requires.pair turn in (
-      record {
-        pair = (pair.0 ∙ ap (λ (w : WriterView). w.book) (sym h.writer), pair.1 ∙ ap (λ (w : WriterView). w.layout) (sym h.writer));
-        room = subst (λ (w : WriterView). HasRoomFor w.layout.workers c.args.keys.now c.loop-part.last) (sym h.writer) h.room;
-        answers_room = omega (arith, room_for gives readers yielded part so_far turn, ap length h.answers, c.requires.answers_room.1, h.answers_room);
-      },
-      search rules,
-    )
+    let room = room_for gives readers yielded part so_far turn in
+    let len = ap length h.answers in
+    omega (arith, room, len, c.requires.answers_room.1, h.answers_room)
 
 pub loop-part-preserved : goal.loop-part-preserved
 loop-part-preserved g c =

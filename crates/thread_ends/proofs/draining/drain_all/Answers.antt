@@ -1,7 +1,6 @@
-use Rattle.std.proofs.Common.{◌≡◌, ◌<◌, ◌≤◌, ◌++◌, length, ◌∙◌, arith, rules}
-use Rattle.aggregate.specs.Takens.{AreNamed}
-use Rattle.thread_ends.specs.Ends.{both_sents}
-use Rattle.thread_ends.proofs.Drained.{drained_all, drained_next, keep_len, keep_self, keep_then, named_still, same_self, same_then}
+use Rattle.std.proofs.Common.{◌≡◌, ◌<◌, ◌≤◌, ◌++◌, length, ◌∙◌, arith}
+use Rattle.thread_ends.specs.Ends.{HasAll, LacksLast}
+use Rattle.thread_ends.proofs.Drained.{at_err, drained_all, drained_next, keep_len, keep_self, keep_then, named_still, same_self, same_then}
 use Rattle.thread_ends.proofs.draining.drain_all.Goals as goal
 
 pub loop-place-init : goal.loop-place-init
@@ -13,19 +12,17 @@ loop-place-init g c = record {
   drained = λ k lt. absurd (omega (arith, lt));
 }
 
-pub drain_lane-requires : goal.drain_lane-requires
-drain_lane-requires g c =
+pub drain_lane-requires-clause-ids : goal.drain_lane-requires-clause-ids
+drain_lane-requires-clause-ids g c κs within = c.loop-place.invariant.kept.ids ∙ c.requires.ids
+
+pub drain_lane-requires-clause-place : goal.drain_lane-requires-clause-place
+drain_lane-requires-clause-place g c κs within =
+    omega (arith, c.loop-place-test.true, c.len-place-end.ensures, keep_len c.args.passes.now.items c.loop-place.passes.items c.loop-place.invariant.kept)
+
+pub drain_lane-requires-clause-named : goal.drain_lane-requires-clause-named
+drain_lane-requires-clause-named g c κs within =
     let h = c.loop-place.invariant in
-    let start = c.args.passes.now.items in
-    let a = c.loop-place.passes.items in (
-      record {
-        ids = h.kept.ids ∙ c.requires.ids;
-        place = omega (arith, c.loop-place-test.true, c.len-place-end.ensures, keep_len start a h.kept);
-        order = h.order;
-        named = named_still g.K.Kind.rules start a c.args.writer.now c.loop-place.writer h.kept h.same c.requires.named;
-      },
-      search rules,
-    )
+    named_still g.K.Kind.rules c.args.passes.now.items c.loop-place.passes.items c.args.writer.now c.loop-place.writer h.kept h.same c.requires.named
 
 pub loop-place-preserved : goal.loop-place-preserved
 loop-place-preserved g c =
@@ -45,7 +42,9 @@ loop-place-preserved g c =
 
 pub returns-in_err-drain_lane-clause-lost : goal.returns-in_err-drain_lane-clause-lost
 returns-in_err-drain_lane-clause-lost g c =
-    let lost = c.in_err-drain_lane.ensures.lost in (lost.0, λ was. lost.1 (c.loop-place.invariant.taken was))
+    let lost : HasAll g.K.Kind.rules c.args.passes.now.items c.args.writer.now → LacksLast g.K.Kind.rules c.drain_lane.new.passes.items c.drain_lane.new.writer =
+    λ was. c.in_err-drain_lane.ensures.lost (c.loop-place.invariant.taken was) in
+    at_err (HasAll g.K.Kind.rules c.args.passes.now.items c.args.writer.now → LacksLast g.K.Kind.rules c.drain_lane.new.passes.items c.drain_lane.new.writer) c.from_residual.result lost
 
 pub returns-clause-drained : goal.returns-clause-drained
 returns-clause-drained g c =

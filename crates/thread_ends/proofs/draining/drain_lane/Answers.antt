@@ -2,8 +2,8 @@ use Rattle.std.proofs.Common.{◌≡◌, ◌<◌, ◌++◌, ◌∷◌, [], List,
 use Rattle.hash_rows.specs.declared.shape.Push.{Push}
 use Rattle.live_state.specs.Fold.{fits}
 use Rattle.aggregate.specs.Takens.{taken_at}
-use Rattle.thread_ends.specs.Ends.{KeepLists, KeepsPublished, both_sents, kept_in}
-use Rattle.thread_ends.proofs.Drained.{fits_one, keep_len, keep_self, keep_then, kept_more, kept_same, others_stay, same_self, same_then, taken_one, taken_same}
+use Rattle.thread_ends.specs.Ends.{HasAll, KeepLists, KeepsPublished, LacksLast, both_sents, kept_in}
+use Rattle.thread_ends.proofs.Drained.{at_err, fits_one, keep_len, keep_self, keep_then, kept_more, kept_same, others_stay, same_self, same_then, taken_one, taken_same}
 use Rattle.thread_ends.proofs.draining.drain_lane.Goals as goal
 
 pub loop-init : goal.loop-init
@@ -32,9 +32,9 @@ append-requires g c =
     let a = c.loop.passes.items in
     let b = c.drain_at.new.passes.items in
     let within : c.args.place < length a = omega (arith, c.requires.place, keep_len start a h.kept) in
-    let fit : fits g.K.Kind.rules c.args.writer.now.layout c.in-Some.field-0 ≡ true =
-    fits_one a b c.args.place c.in-Some.field-0 within d.kept c.in-Some.ensures.taken g.K.Kind.rules c.args.writer.now.layout (both_sents start) (d.kept.sents ∙ h.kept.sents) c.requires.named d.order in
-    ap (λ l. fits g.K.Kind.rules l c.in-Some.field-0) h.same.layout ∙ fit
+    let fit : fits g.K.Kind.rules c.args.writer.now.layout c.in-Some-drain_at.message ≡ true =
+    fits_one a b c.args.place c.in-Some-drain_at.message within d.kept c.in-Some-drain_at.ensures.taken g.K.Kind.rules c.args.writer.now.layout (both_sents start) (d.kept.sents ∙ h.kept.sents) c.requires.named d.order in
+    ap (λ l. fits g.K.Kind.rules l c.in-Some-drain_at.message) h.same.layout ∙ fit
 
 pub loop-preserved : goal.loop-preserved
 loop-preserved g c =
@@ -46,16 +46,16 @@ loop-preserved g c =
     let b = c.drain_at.new.passes.items in
     let v = c.loop.writer in
     let w = c.append.new.self in
-    let m = c.in-Some.field-0 in
+    let m = c.in-Some-drain_at.message in
     let within : c.args.place < length a = omega (arith, c.requires.place, keep_len start a h.kept) in
     let step : KeepsPublished v w = record { book = e.0; layout = e.1; published = e.2 } in
     record {
       same = same_then c.args.writer.now v w h.same step;
       kept = keep_then start a b h.kept d.kept;
       order = d.order;
-      taken = λ was. taken_one a b c.args.place m within d.kept c.in-Some.ensures.taken g.K.Kind.rules v.layout w.layout (kept_in v) (kept_in w) (h.taken was) e.1
+      taken = λ was. taken_one a b c.args.place m within d.kept c.in-Some-drain_at.ensures.taken g.K.Kind.rules v.layout w.layout (kept_in v) (kept_in w) (h.taken was) e.1
           (kept_more v w m e.2 c.in_ok-append.ensures.pending) c.append.requires;
-      others = λ k apart. others_stay a b c.args.place m within d.kept c.in-Some.ensures.taken k apart ∙ h.others k apart;
+      others = λ k apart. others_stay a b c.args.place m within d.kept c.in-Some-drain_at.ensures.taken k apart ∙ h.others k apart;
     }
 
 pub returns-in_err-append-clause-lost : goal.returns-in_err-append-clause-lost
@@ -67,9 +67,12 @@ returns-in_err-append-clause-lost g c =
     let b = c.drain_at.new.passes.items in
     let v = c.loop.writer in
     let w = c.append.new.self in
-    let m = c.in-Some.field-0 in
-    let within : c.args.place < length a = omega (arith, c.requires.place, keep_len c.args.passes.now.items a h.kept) in (
+    let m = c.in-Some-drain_at.message in
+    let within : c.args.place < length a = omega (arith, c.requires.place, keep_len c.args.passes.now.items a h.kept) in
+    let lost : HasAll g.K.Kind.rules c.args.passes.now.items c.args.writer.now → LacksLast g.K.Kind.rules b w =
+    λ was. (
       m,
-      λ was. taken_one a b c.args.place m within d.kept c.in-Some.ensures.taken g.K.Kind.rules v.layout w.layout (kept_in v) (kept_in w ++ m ∷ []) (h.taken was) e.1
+      taken_one a b c.args.place m within d.kept c.in-Some-drain_at.ensures.taken g.K.Kind.rules v.layout w.layout (kept_in v) (kept_in w ++ m ∷ []) (h.taken was) e.1
           (ap (λ l. l ++ m ∷ []) (kept_same v w e.2 c.in_err-append.ensures.pending)) c.append.requires,
-    )
+    ) in
+    at_err (HasAll g.K.Kind.rules c.args.passes.now.items c.args.writer.now → LacksLast g.K.Kind.rules b w) c.from_residual.result lost
