@@ -15,7 +15,7 @@ use Rattle.push_lane.specs.Rule.{StartsWith}
 use Rattle.push_lane.specs.Views.{BothView, LaneView}
 use Rattle.aggregate.specs.Takens.{AreNamed, AreTaken, taken_at}
 use Rattle.aggregate.proofs.Grown.{taken_more}
-use Rattle.thread_ends.specs.Ends.{AreOf, HaveOrder, KeepLists, KeepsPublished, both_fulls, both_sents, both_takens, kept_in, with_message}
+use Rattle.thread_ends.specs.Ends.{AreOf, HasAll, HaveOrder, KeepLists, KeepsPublished, both_fulls, both_sents, both_takens, kept_in, with_message}
 use Rattle.thread_ends.proofs.Joined.{both_id, lane_id}
 
 abbrev IsInOrder : BothView → Type 0
@@ -130,12 +130,16 @@ module _ (a b : List BothView) (place : ℕ) (m : Push) (within : place < length
       let at = all (length t) m (omega (arith, lt, length-append (t ++ m ∷ []) rest)) in
       (subst P (get_or_append_left (t ++ m ∷ []) rest m (length t) lt ∙ get_or_push t m m (length t) refl) at).1
 
-  pub taken_one : (r : Rules) (l k : Layout) (messages after : List Push) → AreTaken r l (both_takens a) messages → k ≡ l → after ≡ messages ++ m ∷ [] → fits r l m ≡ true
-      → AreTaken r k (both_takens b) after
-  taken_one r l k messages after before layout more fit =
-      subst (λ (n : Layout). AreTaken r n (both_takens b) after) (sym layout)
-      (subst (λ (ls : List (List Push)). AreTaken r l ls after) (sym took)
-      (taken_more (both_takens a) place m inside r l messages before after true (sym fit) more))
+  -- what was sent was named and ordered at first, and stayed
+  module _ (r : Rules) (start : List BothView) (first v : WriterView) (kept : KeepLists start a) (pair : KeepsPublished first v) (named : AreNamed r first.layout (both_sents start)) (order : HaveOrder b) where
+    pub it_fits : fits r v.layout m ≡ true
+    it_fits = ap (λ (l : Layout). fits r l m) pair.layout ∙ fits_one r first.layout (both_sents start) (same.sents ∙ kept.sents) named order
+
+    pub taken_one : (w : WriterView) (after : List Push) → HasAll r a v → w.layout ≡ v.layout → after ≡ kept_in v ++ m ∷ [] → AreTaken r w.layout (both_takens b) after
+    taken_one w after before layout more =
+        subst (λ (n : Layout). AreTaken r n (both_takens b) after) (sym layout)
+        (subst (λ (ls : List (List Push)). AreTaken r v.layout ls after) (sym took)
+        (taken_more (both_takens a) place m inside r v.layout (kept_in v) before after true (sym it_fits) more))
 
 -- nothing more was taken
 pub taken_same : (r : Rules) (l : Layout) (a b : List BothView) (messages : List Push) → both_takens b ≡ both_takens a → AreTaken r l (both_takens a) messages → AreTaken r l (both_takens b) messages

@@ -1,9 +1,9 @@
-use Rattle.std.proofs.Common.{◌≡◌, ◌<◌, ◌++◌, ◌∷◌, [], List, length, refl, sym, ap, ◌∙◌, arith, true}
+use Rattle.std.proofs.Common.{◌≡◌, ◌<◌, ◌++◌, ◌∷◌, [], List, length, refl, sym, ap, ◌∙◌, arith, rules, true}
 use Rattle.hash_rows.specs.declared.shape.Push.{Push}
 use Rattle.live_state.specs.Fold.{fits}
 use Rattle.aggregate.specs.Takens.{taken_at}
 use Rattle.thread_ends.specs.Ends.{HasAll, KeepLists, KeepsPublished, LacksLast, both_sents, kept_in}
-use Rattle.thread_ends.proofs.Drained.{at_err, fits_one, keep_len, keep_self, keep_then, kept_more, kept_same, others_stay, same_self, same_then, taken_one, taken_same}
+use Rattle.thread_ends.proofs.Drained.{at_err, it_fits, keep_len, keep_self, keep_then, kept_more, kept_same, others_stay, same_self, same_then, taken_one, taken_same}
 use Rattle.thread_ends.proofs.draining.drain_lane.Goals as goal
 
 pub loop-init : goal.loop-init
@@ -30,11 +30,11 @@ append-requires g c =
     let d = c.drain_at.ensures in
     let start = c.args.passes.now.items in
     let a = c.loop.passes.items in
-    let b = c.drain_at.new.passes.items in
+    let m = c.in-Some-drain_at.message in
     let within : c.args.place < length a = omega (arith, c.requires.place, keep_len start a h.kept) in
-    let fit : fits g.K.Kind.rules c.args.writer.now.layout c.in-Some-drain_at.message ≡ true =
-    fits_one a b c.args.place c.in-Some-drain_at.message within d.kept c.in-Some-drain_at.ensures.taken g.K.Kind.rules c.args.writer.now.layout (both_sents start) (d.kept.sents ∙ h.kept.sents) c.requires.named d.order in
-    ap (λ l. fits g.K.Kind.rules l c.in-Some-drain_at.message) h.same.layout ∙ fit
+    let fit : fits g.K.Kind.rules c.loop.writer.layout m ≡ true =
+    it_fits a c.drain_at.new.passes.items c.args.place m within d.kept c.in-Some-drain_at.ensures.taken g.K.Kind.rules start c.args.writer.now c.loop.writer h.kept h.same c.requires.named d.order in
+    search (rules, fit)
 
 pub loop-preserved : goal.loop-preserved
 loop-preserved g c =
@@ -47,15 +47,16 @@ loop-preserved g c =
     let v = c.loop.writer in
     let w = c.append.new.self in
     let m = c.in-Some-drain_at.message in
+    let took = c.in-Some-drain_at.ensures.taken in
     let within : c.args.place < length a = omega (arith, c.requires.place, keep_len start a h.kept) in
     let step : KeepsPublished v w = record { book = e.0; layout = e.1; published = e.2 } in
     record {
       same = same_then c.args.writer.now v w h.same step;
       kept = keep_then start a b h.kept d.kept;
       order = d.order;
-      taken = λ was. taken_one a b c.args.place m within d.kept c.in-Some-drain_at.ensures.taken g.K.Kind.rules v.layout w.layout (kept_in v) (kept_in w) (h.taken was) e.1
-          (kept_more v w m e.2 c.in_ok-append.ensures.pending) c.append.requires;
-      others = λ k apart. others_stay a b c.args.place m within d.kept c.in-Some-drain_at.ensures.taken k apart ∙ h.others k apart;
+      taken = λ was. taken_one a b c.args.place m within d.kept took g.K.Kind.rules start c.args.writer.now v h.kept h.same c.requires.named d.order w (kept_in w) (h.taken was) e.1
+          (kept_more v w m e.2 c.in_ok-append.ensures.pending);
+      others = λ k apart. others_stay a b c.args.place m within d.kept took k apart ∙ h.others k apart;
     }
 
 pub returns-in_err-append-clause-lost : goal.returns-in_err-append-clause-lost
@@ -63,16 +64,18 @@ returns-in_err-append-clause-lost g c =
     let h = c.loop.invariant in
     let d = c.drain_at.ensures in
     let e = c.append.ensures.same in
+    let start = c.args.passes.now.items in
     let a = c.loop.passes.items in
     let b = c.drain_at.new.passes.items in
     let v = c.loop.writer in
     let w = c.append.new.self in
     let m = c.in-Some-drain_at.message in
-    let within : c.args.place < length a = omega (arith, c.requires.place, keep_len c.args.passes.now.items a h.kept) in
+    let took = c.in-Some-drain_at.ensures.taken in
+    let within : c.args.place < length a = omega (arith, c.requires.place, keep_len start a h.kept) in
     let lost : HasAll g.K.Kind.rules c.args.passes.now.items c.args.writer.now → LacksLast g.K.Kind.rules b w =
     λ was. (
       m,
-      taken_one a b c.args.place m within d.kept c.in-Some-drain_at.ensures.taken g.K.Kind.rules v.layout w.layout (kept_in v) (kept_in w ++ m ∷ []) (h.taken was) e.1
-          (ap (λ l. l ++ m ∷ []) (kept_same v w e.2 c.in_err-append.ensures.pending)) c.append.requires,
+      taken_one a b c.args.place m within d.kept took g.K.Kind.rules start c.args.writer.now v h.kept h.same c.requires.named d.order w (kept_in w ++ m ∷ []) (h.taken was) e.1
+          (ap (λ l. l ++ m ∷ []) (kept_same v w e.2 c.in_err-append.ensures.pending)),
     ) in
     at_err (HasAll g.K.Kind.rules c.args.passes.now.items c.args.writer.now → LacksLast g.K.Kind.rules b w) c.from_residual.result lost
