@@ -56,7 +56,7 @@ returns-clause-table g c =
     let is = rules_are g.K.Kind.rules o g.K.Kind.sketch kind.is_sketch c.requires.sketch in
     let old = c.into_table-table.result in
     let joined = subst (λ (xs : List (PrivateView g.row.K-Held.Denot)). (of : ℕ → Counted)
-        → ((w : ℕ) (s : PrivateView g.row.K-Held.Denot) → w < length xs → StandsFor g.K.Kind.stands g.K.Kind.rules (slice_index_or xs w s) (of w).updates (of w).messages (of w).refused)
-        → HasJoined g.K.Kind.rules of (length xs) (size_of old.shape) old.cells c.join_residues.new.table.cells) c.as_slice.ensures c.join_residues.ensures.joined in
+    → ((w : ℕ) (s : PrivateView g.row.K-Held.Denot) → w < length xs → StandsFor g.K.Kind.stands g.K.Kind.rules (slice_index_or xs w s) (of w).updates (of w).messages (of w).refused)
+    → HasJoined g.K.Kind.rules of (length xs) (size_of old.shape) old.cells c.join_residues.new.table.cells) c.as_slice.ensures c.join_residues.ensures.joined in
     whole_table g.K.Kind.stands g.K.Kind.rules o c.args.packets.now is c.requires.lawful c.requires.amounts c.requires.published.0 c.args.spare c.requires.published.1
     c.into_table-table.result c.join_residues.new.table c.into_table-table.ensures c.join_residues.ensures.shape c.join_residues.ensures.size joined

@@ -60,12 +60,14 @@ conclude-settled-requires-clause-published g c κs within =
     let e = c.publish_rest.ensures in
     let w = c.publish_rest.new.writer in
     let same = c.gather_answers.ensures.writer in
-    let layout = e.pair.1 ∙ ap (λ (v : WriterView). v.layout) c.into_parts-writer.ensures.writer ∙ layout_is g.K.Kind.stands g.K.Kind.rules o c.args.packets.now c.args.keys.now.items c.args.lanes.items c.args.workers.items c.args.rest c.args.spare c.requires.ended in
-    (w.published, all_published g.K.Kind.stands g.K.Kind.rules o c.args.packets.now c.args.keys.now.items c.args.lanes.items c.args.workers.items c.args.rest c.args.spare c.requires.ended is c.requires.lawful c.requires.amounts w _ layout
-    e.sketches e.sents e.fulls c.in-Ok.ensures.published (subst (λ (v : WriterView). Fit r v.layout v.published) same c.copy_state.ensures.fit)
-    c.folded-folded.result (c.folded-folded.ensures.length ∙ ap (λ (v : WriterView). length v.published) (c.copy_state.ensures.same ∙ same)) c.folded-folded.ensures.room
-    (c.copy_state.ensures.fold ∙ ap (λ (v : WriterView). state_after r v.layout v.published) same) c.gather_answers.ensures.answers c.gather_answers.ensures.before
-    e.rooms.refused e.rooms.pushes e.rooms.live)
+    let layout = e.pair.1 ∙ ap (λ (v : WriterView). v.layout) c.into_parts-writer.ensures.writer ∙ layout_is g.K.Kind.stands g.K.Kind.rules o c.args.packets.now c.args.keys.now.items c.args.lanes.items c.args.workers.items c.args.rest c.args.spare c.requires.ended in (
+      w.published,
+      all_published g.K.Kind.stands g.K.Kind.rules o c.args.packets.now c.args.keys.now.items c.args.lanes.items c.args.workers.items c.args.rest c.args.spare c.requires.ended is c.requires.lawful c.requires.amounts w _ layout
+          e.sketches e.sents e.fulls c.in-Ok.ensures.published (subst (λ (v : WriterView). Fit r v.layout v.published) same c.copy_state.ensures.fit)
+          c.folded-folded.result (c.folded-folded.ensures.length ∙ ap (λ (v : WriterView). length v.published) (c.copy_state.ensures.same ∙ same)) c.folded-folded.ensures.room
+          (c.copy_state.ensures.fold ∙ ap (λ (v : WriterView). state_after r v.layout v.published) same) c.gather_answers.ensures.answers c.gather_answers.ensures.before
+          e.rooms.refused e.rooms.pushes e.rooms.live,
+    )
 
 pub returns-clause-drained : goal.returns-clause-drained
 returns-clause-drained g c =
