@@ -7,10 +7,10 @@ use std::alloc::Global;
 use std::sync::Wait;
 use std::sync::atomic::{AtomicU64, Ordering};
 use std::test::Fail;
-use std::thread::Threads;
+use std::thread::{self, Threads};
 
-/// The turns after which a hold ends, and notes a miss.
-const TURNS: u32 = 16777216;
+/// The turns after which a hold ends, and notes a miss. At each of them others may go first.
+const TURNS: u32 = 1048576;
 
 // Waits until the count is at least so high.
 fn hold(count: &AtomicU64, least: u64, misses: &AtomicU64) {
@@ -18,6 +18,7 @@ fn hold(count: &AtomicU64, least: u64, misses: &AtomicU64) {
         if count.load(Ordering::SeqCst) >= least {
             return;
         }
+        thread::yield_now();
     }
     misses.fetch_add(1, Ordering::SeqCst);
 }
