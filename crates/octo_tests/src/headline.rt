@@ -8,14 +8,15 @@ ghost use Rattle.words.specs.Options.{Gives};
 ghost use Rattle.words.specs.declared.command.Command.{Command};
 
 use flow_base::{MemSink, MemSource, NoMemory, Status};
-use octo_run::{octo, one_text};
+use octo_run::{OpenGate, octo, one_text};
 use std::alloc::Global;
+use std::sync::Wait;
 use std::thread::Threads;
 
 /// What the top call's contract alone says to a caller whose source and output tell their bytes:
 /// where the run is done, the output is what it was and, behind it, the one text of these bytes or,
 /// with `load`, of the generated ones.
-pub fn whole_run<R: Threads + Sync>(
+pub fn whole_run<R: Threads + Wait + Sync>(
     rt: &R,
     alloc: Global,
     words: &[String],
@@ -32,5 +33,5 @@ pub fn whole_run<R: Threads + Sync>(
 {
     one_text();
     let mut source = MemSource::new(alloc, bytes, 4096, &[])?;
-    Ok(octo(rt, alloc, words, &mut source, out, err))
+    Ok(octo(rt, alloc, words, &mut source, out, err, &OpenGate))
 }
