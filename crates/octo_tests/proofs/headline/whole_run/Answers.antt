@@ -1,4 +1,6 @@
 use Rattle.std.proofs.Common.{◌≡◌, subst, sym, List, ℕ}
+use Rattle.std.specs.Prelude.{Some}
+use Rattle.capture_load.specs.Generated.{generated}
 use Rattle.octo_tests.proofs.ToldText.{given_all, told}
 use Rattle.octo_run.specs.Runs.{IsRunText}
 use Rattle.words.specs.declared.command.Command.TheVariants.{Run, Load}
@@ -7,11 +9,12 @@ use Rattle.octo_tests.proofs.headline.whole_run.Goals as goal
 pub returns-clause-run : goal.returns-clause-run
 returns-clause-run g c = λ is o gives rounds text tells.
     let left : c.in_ok-source.source.left ≡ c.args.bytes.now = λ i. (c.in_ok-source.ensures i).left in
-    told (IsRunText o) (λ given s t. c.one_text.ensures o given s t rounds) _ _ _
-    (given_all (IsRunText o) _ _ c.in_ok-source.source.left c.octo.new.source.left c.octo.ensures.front.0 c.octo.ensures.front.1
-    (c.octo.ensures.done is (Run o) gives)) text
+    told (IsRunText o) (λ given s t. c.one_text.ensures o given s t rounds) c.args.out.now.held c.octo.new.out.held c.in_ok-source.source.left
+    (given_all (IsRunText o) (Some c.args.out.now.held) (Some c.octo.new.out.held) c.in_ok-source.source.left c.octo.new.source.left
+    c.octo.ensures.front.0 c.octo.ensures.front.1 (c.octo.ensures.done is (Run o) gives)) text
     (subst (λ (bytes : List ℕ). IsRunText o bytes text) (sym left) tells)
 
 pub returns-clause-load : goal.returns-clause-load
 returns-clause-load g c = λ is n k o gives rounds text tells.
-    told (IsRunText o) (λ given s t. c.one_text.ensures o given s t rounds) _ _ _ (c.octo.ensures.done is (Load n k o) gives) text tells
+    told (IsRunText o) (λ given s t. c.one_text.ensures o given s t rounds) c.args.out.now.held c.octo.new.out.held (generated n k)
+    (c.octo.ensures.done is (Load n k o) gives) text tells
