@@ -18,30 +18,6 @@ use Rattle.pcapng_read.specs.declared.bad.NgBad.{NgBad}
 use Rattle.pcapng_read.specs.declared.reader.NgTaken.{NgTaken}
 use Rattle.capture_load.specs.Capture.{ng_magic}
 
-no_frames : (reader : Place) (o : Option Order) (bytes : List ℕ) (next : Framed) → length bytes < 24 → MatchOption o (InHeader reader bytes (next ∷ [])) (InBody reader bytes (next ∷ [])) → ⊥
-no_frames reader None bytes next few at = let e : next ∷ [] ≡ [] = at.none in cc
-no_frames reader (Some order) bytes next few at = absurd (omega (arith, few, at.laid.header.long))
-
--- a reader that has taken a piece shorter than a header
-pub record Begun (old new : Place) (piece : List ℕ) : Type 0 where
-  pub stands : Stands new piece []
-  pub count : new.count ≡ old.count
-  pub bytes : new.bytes ≡ old.bytes + length piece
-
-pub begun : (old new : Place) (piece : List ℕ) (taken : Taken) → length piece < 24
-    → MatchBool taken.whole (TakesWhole new ([] ++ take taken.used piece) []) (Stands new ([] ++ take taken.used piece) []) → GoesOn old new piece taken → Begun old new piece
-begun old new piece taken few takes on = by taken.whole refl takes
-  where
-    by : (w : Bool) → taken.whole ≡ w → MatchBool w (TakesWhole new (take taken.used piece) []) (Stands new (take taken.used piece) []) → Begun old new piece
-    by true is whole = absurd (no_frames new new.order (take taken.used piece) whole.next (omega (arith, few, length-take taken.used piece)) whole.stands.at)
-    by false is stands =
-        let used : taken.used ≡ length piece = on.all is in
-        record {
-          stands = subst (λ (b : List ℕ). Stands new b []) (take_all taken.used piece (omega (arith, used))) stands;
-          count = on.count ∙ ap (λ (b : Bool). if b then old.count + 1 else old.count) is;
-          bytes = on.bytes ∙ ap (λ (n : ℕ). old.bytes + n) used;
-        }
-
 -- a whole block has more than eight bytes
 no_block : (limit : ℕ) (bytes : List ℕ) (b : Block) (bs : List Block) (rest : List ℕ) → length bytes < 8 → bytes ≡ flat_map text (b ∷ bs) ++ rest → AreBlocks limit start (b ∷ bs) → ⊥
 unfolding AreBlocks

@@ -42,29 +42,3 @@ open_short (suc zero) few = record { few = omega (arith, few); fine = refl }
 open_short (suc (suc zero)) few = record { few = omega (arith, few); fine = refl }
 open_short (suc (suc (suc zero))) few = record { few = omega (arith, few); fine = refl }
 open_short (suc (suc (suc (suc k)))) few = absurd (omega (arith, few))
-
--- a byte that differs tells that the capture isn't pcapng
-pub differs : (k : ℕ) (x : ℕ) (xs more : List ℕ) → k < 4 → (x ≡ slice_index ng_magic k → ⊥) → IsNg ((take k ng_magic ++ x ∷ xs) ++ more) → ⊥
-differs zero x xs more few other is = other (cc)
-differs (suc zero) x xs more few other is = other (cc)
-differs (suc (suc zero)) x xs more few other is = other (cc)
-differs (suc (suc (suc zero))) x xs more few other is = other (cc)
-differs (suc (suc (suc (suc k)))) x xs more few other is = absurd (omega (arith, few))
-
-pub other_from : (k : ℕ) (piece : List ℕ) (n : ℕ) → k < 4 → 0 < length piece → (slice_index piece 0 ≡ slice_index ng_magic k → ⊥) → 0 < n → IsOther (take k ng_magic ++ take n piece)
-other_from k [] n few some other more = absurd (omega (arith, some))
-other_from k (x ∷ xs) zero few some other more = absurd (omega (arith, more))
-other_from k (x ∷ xs) (suc n) few some other more = λ rest is. differs k x (take n xs) rest few other is
-
-pub other_piece : (k : ℕ) (piece : List ℕ) → k < 4 → 0 < length piece → (slice_index piece 0 ≡ slice_index ng_magic k → ⊥) → IsOther (take k ng_magic ++ piece)
-other_piece k piece few some other =
-    subst (λ (p : List ℕ). IsOther (take k ng_magic ++ p)) (take-length piece) (other_from k piece (length piece) few some other some)
-
--- and one that doesn't is the next of the four
-pub next_open : (k : ℕ) (piece : List ℕ) → k < 4 → 0 < length piece → slice_index piece 0 ≡ slice_index ng_magic k → take k ng_magic ++ take 1 piece ≡ take (k + 1) ng_magic
-next_open k [] few some same = absurd (omega (arith, some))
-next_open zero (x ∷ xs) few some same = cc
-next_open (suc zero) (x ∷ xs) few some same = cc
-next_open (suc (suc zero)) (x ∷ xs) few some same = cc
-next_open (suc (suc (suc zero))) (x ∷ xs) few some same = cc
-next_open (suc (suc (suc (suc k)))) (x ∷ xs) few some same = absurd (omega (arith, few))

@@ -37,15 +37,3 @@ ng_goes_on reader notes bytes piece frames is (Err ReadFault) stops = stops
 ng_goes_on reader notes bytes piece frames is (Err (BadStop bad)) stops = absurd stops
 ng_goes_on reader notes bytes piece frames is (Err (NgStop bad)) stops = (stops.0, (ng_stays bytes piece is, stops.1))
 ng_goes_on reader notes bytes piece frames is (Err NoMemory) stops = stops
-
--- where no frame came, the bytes are known to be others
-pub open_goes_on : (format : Format) (notes : Notes) (bytes bytes' : List ℕ) (frames : List Framed) → frames ≡ [] → bytes ≡ bytes' → StandsIn format bytes' [] → Keeps notes frames
-    → (more : List Framed) × Loads (record { format = format; notes = notes }) bytes (frames ++ more)
-open_goes_on format notes bytes bytes' frames none same stands keeps = (
-  [],
-  subst (λ (fs : List Framed). Loads (record { format = format; notes = notes }) bytes fs) (sym (append-nil frames))
-      (record {
-        stands = subst (λ (b : List ℕ). StandsIn format b frames) (sym same) (subst (StandsIn format bytes') (sym none) stands);
-        keeps = keeps;
-      }),
-)

@@ -42,7 +42,7 @@ pub fn load_capture<S: Source>(
 {
     let mut loading = begin(alloc, amount)?;
     let mut buf = [0u8; 4096];
-    loop {
+    'reads: loop {
         match source.read(&mut buf) {
             Err(_) => return Err(LoadStop::ReadFault),
             Ok(0) => break,

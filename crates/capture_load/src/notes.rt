@@ -21,7 +21,8 @@ impl Notes {
     #[inline(always)]
     pub fn note(&mut self, original: u32, bytes: &[u8]) -> Result<(), NoMemory>
         requires { number_of self.old < 16777216 }
-        ensures packets { OnOk result (self.new.packets.items ≡ self.old.packets.items ++ packets_of self.old.amount (record { original = original; bytes = bytes.now } ∷ [])) }
+        ensures packets { OnOk result (self.new.packets.items ≡ self.old.packets.items
+            ++ packets_of self.old.amount (record { original = original; bytes = bytes.now } ∷ [])) }
         ensures skipped { OnOk result (self.new.skipped ≡ tallied self.old.skipped (key_of bytes.now)) }
         ensures one { OnOk result (number_of self.new ≡ number_of self.old + 1) }
         ensures amount { self.new.amount ≡ self.old.amount }
