@@ -1,7 +1,6 @@
-use Rattle.std.proofs.Common.{rules, ◌≡◌, ◌∙◌, ◌++◌, ap, List, [], map}
+use Rattle.std.proofs.Common.{rules, ◌≡◌, ◌∙◌, ◌++◌, ap, [], map}
 use Rattle.std.proofs.lemmas.Result.{IfOk-weaker}
 use Rattle.clap.specs.Words.{app_of}
-use Rattle.words.specs.Grammar.{Name}
 use Rattle.words.specs.Names.{names_of}
 use Rattle.words.specs.Rules.{app_of_names, flag_name, option_name}
 use Rattle.words.proofs.parser.parser_of.Goals as goal
