@@ -47,8 +47,8 @@ pub record GivesShape (parts : List Part) (sketch : Sketch) (shape : Shape) : Ty
   pub columns : ReadsNumber 1 65536 2048 (value_in (codes "columns") parts) shape.columns
   pub registers : HasRegisters sketch shape.columns
 
--- the parts give these options, where a sketch stands for the one that no part chooses, and a text may list the watched keys,
--- for which there is room for the most that can be given
+-- the parts give these options: the usual sketch where none is chosen, and the keys that the text lists, with room for the most
+-- that can be watched
 pub record GivesOptions (usual : Sketch) (keys : Option Text) (parts : List Part) (o : Options) : Type 0 where
   pub sketch : ReadsChoice sketch_text usual (value_in (codes "sketch") parts) o.sketch
   pub suited : suits o.sketch parts ≡ true
