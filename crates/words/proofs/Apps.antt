@@ -17,7 +17,8 @@ use Rattle.clap.specs.declared.error.kind.ErrorKind.TheVariants.{OutOfMemory}
 use Rattle.clap.specs.declared.parser.matches.ArgMatches.{ArgMatches}
 use Rattle.clap.proofs.WalkLemmas.{first_value-rows, one_text-rows}
 use Rattle.clap.proofs.FaultLemmas.{leaf_fault}
-use Rattle.words.specs.Matches.{HasLine, flag_text}
+use Rattle.words.specs.Matches.{HasLine, IsKept, flag_text}
+use Rattle.words.specs.Names.{is_flag}
 use Rattle.words.specs.Forms.{is_form}
 use Rattle.words.specs.Grammar.{IsNoLine, kind_by, AreOnce, AreParts, IsLine, IsPart, Name, Part, Text, is_in, name_of, value_in}
 use Rattle.words.specs.Rules.{app_of_names, rule_at, rule_by, rules, told_by, top}
@@ -172,10 +173,9 @@ parse_of_line names words parts all line =
 
 -- ---- the values
 
--- the names differ
-abbrev pub are_distinct : List Name → Bool
-are_distinct [] = true
-are_distinct (n ∷ ns) = list_all (λ m. not (bytes_eq m.text n.text)) ns && are_distinct ns
+-- the name is a flag or an option, as it is in every command
+abbrev pub fits_kind : Name → Bool
+fits_kind n = (n.has_value || is_flag n.text) && not (n.has_value && is_flag n.text)
 
 abbrev is_option_only : Text → List Name → Bool
 is_option_only t = list_all (λ n. n.has_value || not (bytes_eq n.text t))
@@ -187,28 +187,51 @@ or_right : (a b : Bool) → b ≡ true → (a || b) ≡ true
 or_right true b e = refl
 or_right false b e = e
 
-absent_option : (t : Text) (names : List Name) → list_all (λ (m : Name). not (bytes_eq m.text t)) names ≡ true → is_option_only t names ≡ true
-absent_option t [] e = refl
-absent_option t (n ∷ ns) e = let p = and_both _ _ e in and_true _ _ (or_right n.has_value _ p.0) (absent_option t ns p.1)
-
-option_only : (t : Text) (names : List Name) → are_distinct names ≡ true → kind_by names t ≡ Some true → is_option_only t names ≡ true
-option_only t [] d e = refl
-option_only t (n ∷ ns) d e = go (bytes_eq n.text t) refl (option_only t ns p.1) e
+-- a text that is no flag is a flag's in no name
+option_only : (t : Text) (names : List Name) → list_all fits_kind names ≡ true → is_flag t ≡ false → is_option_only t names ≡ true
+option_only t [] fit e = refl
+option_only t (n ∷ ns) fit e =
+    let p = and_both _ _ fit in
+    and_true _ _ (go (bytes_eq n.text t) refl n.has_value (is_flag n.text) (and_both _ _ p.0).0 refl) (option_only t ns p.1 e)
   where
-    p : (list_all (λ (m : Name). not (bytes_eq m.text n.text)) ns ≡ true) × (are_distinct ns ≡ true)
-    p = and_both _ _ d
+    go : (hit : Bool) → bytes_eq n.text t ≡ hit → (b f : Bool) → (b || f) ≡ true → is_flag n.text ≡ f → (b || not hit) ≡ true
+    go hit is true f either same = refl
+    go false is false f either same = refl
+    go true is false true either same = absurd (true≢false (sym same ∙ ap is_flag (same_bytes n.text t is) ∙ e))
+    go true is false false either same = absurd (true≢false (sym either))
 
-    some_is : (a b : Bool) → Some a ≡ Some b → a ≡ b
-    some_is a b got = ap (λ (o : Option Bool). option_map_or (λ x. x) o a) got
+some_is : (a b : Bool) → Some a ≡ Some b → a ≡ b
+some_is a b got = ap (λ (o : Option Bool). option_map_or (λ x. x) o a) got
 
-    go : (hit : Bool) → bytes_eq n.text t ≡ hit → (kind_by ns t ≡ Some true → is_option_only t ns ≡ true)
-        → option_map (λ (m : Name). m.has_value) (cond hit (Some n) (Rattle.words.specs.Grammar.name_of ns t)) ≡ Some true
-        → ((n.has_value || not (bytes_eq n.text t)) && is_option_only t ns) ≡ true
-    go true is ih got =
-        let has : n.has_value ≡ true = some_is _ _ got in
-        and_true _ _ (ap (λ (b : Bool). b || not (bytes_eq n.text t)) has)
-        (subst (λ (u : Text). is_option_only u ns ≡ true) (same_bytes n.text t is) (absent_option n.text ns p.0))
-    go false is ih got = and_true _ _ (or_right n.has_value _ (ap not is)) (ih got)
+-- so where it is a name's, the name stands with a value
+option_kind : (t : Text) (names : List Name) (b : Bool) → is_option_only t names ≡ true → kind_by names t ≡ Some b → b ≡ true
+option_kind t [] b only e = absurd (true≢false (sym (ap is_some e)))
+option_kind t (n ∷ ns) b only e = go (bytes_eq n.text t) (and_both _ _ only) (option_kind t ns b) e
+  where
+    valued : (h : Bool) → (h || false) ≡ true → h ≡ true
+    valued true is = refl
+    valued false is = is
+
+    go : (hit : Bool) → ((n.has_value || not hit) ≡ true) × (is_option_only t ns ≡ true) → (is_option_only t ns ≡ true → kind_by ns t ≡ Some b → b ≡ true)
+        → option_map (λ (m : Name). m.has_value) (cond hit (Some n) (name_of ns t)) ≡ Some b → b ≡ true
+    go true p ih got = sym (some_is _ _ got) ∙ valued n.has_value p.0
+    go false p ih got = ih p.1 got
+
+-- a flag's text is no option's
+flag_kind : (t : Text) (names : List Name) (b : Bool) → list_all fits_kind names ≡ true → is_flag t ≡ true → kind_by names t ≡ Some b → b ≡ false
+flag_kind t [] b fit e got = absurd (true≢false (sym (ap is_some got)))
+flag_kind t (n ∷ ns) b fit e got = go (bytes_eq n.text t) refl (flag_kind t ns b p.1 e) got
+  where
+    p : (fits_kind n ≡ true) × (list_all fits_kind ns ≡ true)
+    p = and_both _ _ fit
+
+    unvalued : (h f : Bool) → f ≡ true → not (h && f) ≡ true → h ≡ false
+    unvalued true f is none = absurd (true≢false (sym (sym (ap not is) ∙ none)))
+    unvalued false f is none = refl
+
+    go : (hit : Bool) → bytes_eq n.text t ≡ hit → (kind_by ns t ≡ Some b → b ≡ false) → option_map (λ (m : Name). m.has_value) (cond hit (Some n) (name_of ns t)) ≡ Some b → b ≡ false
+    go true is ih found = sym (some_is _ _ found) ∙ unvalued n.has_value (is_flag n.text) (ap is_flag (same_bytes n.text t is) ∙ e) (and_both _ _ p.0).1
+    go false is ih found = ih found
 
 abbrev row_at : Text → List Row → Option Row
 row_at t = find (λ r. bytes_eq r.id t)
@@ -272,9 +295,6 @@ fold_stays t (n ∷ ns) rows r e = elim (added rows n) [
   | inr k ↦ fold_stays t ns (with_default rows (rule_by n)) r (ap (row_at t) k.0 ∙ row_at_more t rows r (default_row n.text) e)
 ]
 
-some_is : (a b : Bool) → Some a ≡ Some b → a ≡ b
-some_is a b got = ap (λ (o : Option Bool). option_map_or (λ x. x) o a) got
-
 -- the row of a flag that the words lack is its default
 fold_flag : (t : Text) (names : List Name) (rows : List Row) → kind_by names t ≡ Some false → has_row t rows ≡ false
     → row_at t (fold with_default rows (rules names)) ≡ Some (default_row t)
@@ -307,27 +327,28 @@ fold_flag t (n ∷ ns) rows e none = go (bytes_eq n.text t) refl e (fold_flag t 
 abbrev first_text : Option Row → Option Text
 first_text = option_and_then (λ r. slice_get r.values 0)
 
-option_part : (names : List Name) (t : Text) (p : Part) → IsPart names p → kind_by names t ≡ Some true → p.name ≡ t → Some (text_for p.value) ≡ p.value
-option_part names t p known is same = go p.value (some_is _ _ (sym known ∙ ap (kind_by names) same ∙ is))
+option_part : (names : List Name) (t : Text) (p : Part) → IsPart names p → is_option_only t names ≡ true → p.name ≡ t → Some (text_for p.value) ≡ p.value
+option_part names t p known only same = go p.value (option_kind t names (is_some p.value) only (sym (ap (kind_by names) same) ∙ known))
   where
     go : (v : Option Text) → is_some v ≡ true → Some (text_for v) ≡ v
     go None e = absurd (true≢false (sym e))
     go (Some v) e = refl
 
-first_parts : (names : List Name) (t : Text) (parts : List Part) → AreParts names parts → kind_by names t ≡ Some true
+first_parts : (names : List Name) (t : Text) (parts : List Part) → AreParts names parts → is_option_only t names ≡ true
     → first_text (row_at t (map part_row parts)) ≡ value_in t parts
-first_parts names t [] known is = refl
-first_parts names t (p ∷ ps) known is = go (bytes_eq p.name t) refl (first_parts names t ps known.1 is)
+first_parts names t [] known only = refl
+first_parts names t (p ∷ ps) known only = go (bytes_eq p.name t) refl (first_parts names t ps known.1 only)
   where
     go : (hit : Bool) → bytes_eq p.name t ≡ hit → first_text (row_at t (map part_row ps)) ≡ value_in t ps
         → first_text (cond hit (Some (part_row p)) (row_at t (map part_row ps))) ≡ option_and_then (λ (q : Part). q.value) (cond hit (Some p) (find (λ q. bytes_eq q.name t) ps))
-    go true e ih = option_part names t p known.0 is (same_bytes p.name t e)
+    go true e ih = option_part names t p known.0 only (same_bytes p.name t e)
     go false e ih = ih
 
-pub value_of_line : (names : List Name) (t : Text) (parts : List Part) → are_distinct names ≡ true → AreParts names parts → kind_by names t ≡ Some true
+pub value_of_line : (names : List Name) (t : Text) (parts : List Part) → list_all fits_kind names ≡ true → AreParts names parts → is_flag t ≡ false
     → first_of t (fold with_default (map part_row parts) (rules names)) ≡ value_in t parts
-value_of_line names t parts distinct known is =
-    ap first_text (fold_option t names (map part_row parts) (option_only t names distinct is)) ∙ first_parts names t parts known is
+value_of_line names t parts fit known none =
+    let only = option_only t names fit none in
+    ap first_text (fold_option t names (map part_row parts) only) ∙ first_parts names t parts known only
 
 has_part_row : (t : Text) (parts : List Part) → has_row t (map part_row parts) ≡ is_in t parts
 has_part_row t [] = refl
@@ -361,19 +382,56 @@ flag_of_line names t parts known is = elim (bool_cases (is_in t parts)) [
       ap (option_and_then row_text) (fold_flag t names (map part_row parts) is (has_part_row t parts ∙ e)) ∙ ap (λ (b : Bool). Some (flag_text b)) (sym e)
 ]
 
+-- a text of no name is in no part, and nothing is kept of it
+absent_only : (t : Text) (names : List Name) → kind_by names t ≡ None → is_option_only t names ≡ true
+absent_only t [] e = refl
+absent_only t (n ∷ ns) e = go (bytes_eq n.text t) (absent_only t ns) e
+  where
+    go : (hit : Bool) → (kind_by ns t ≡ None → is_option_only t ns ≡ true) → option_map (λ (m : Name). m.has_value) (cond hit (Some n) (name_of ns t)) ≡ None
+        → ((n.has_value || not hit) && is_option_only t ns) ≡ true
+    go true ih got = absurd (true≢false (ap is_some got))
+    go false ih got = and_true _ _ (or_right n.has_value true refl) (ih got)
+
+absent_parts : (names : List Name) (t : Text) (parts : List Part) → AreParts names parts → kind_by names t ≡ None
+    → (row_at t (map part_row parts) ≡ None) × (is_in t parts ≡ false)
+absent_parts names t [] known e = (refl, refl)
+absent_parts names t (p ∷ ps) known e = go (bytes_eq p.name t) refl (absent_parts names t ps known.1 e)
+  where
+    go : (hit : Bool) → bytes_eq p.name t ≡ hit → (row_at t (map part_row ps) ≡ None) × (is_in t ps ≡ false)
+        → (cond hit (Some (part_row p)) (row_at t (map part_row ps)) ≡ None) × ((hit || is_in t ps) ≡ false)
+    go true is ih = absurd (true≢false (ap is_some (sym known.0 ∙ ap (kind_by names) (same_bytes p.name t is) ∙ e)))
+    go false is ih = ih
+
+-- what is kept of a flag, in a command that has it or hasn't
+pub flag_is_kept : (names : List Name) (t : Text) (parts : List Part) → list_all fits_kind names ≡ true → AreParts names parts → is_flag t ≡ true
+    → IsKept (is_in t parts) (one_of t (fold with_default (map part_row parts) (rules names)))
+flag_is_kept names t parts fit known flag = go (kind_by names t) refl
+  where
+    kept : List Row
+    kept = fold with_default (map part_row parts) (rules names)
+
+    go : (kind : Option Bool) → kind_by names t ≡ kind → IsKept (is_in t parts) (one_of t kept)
+    go None is =
+        let none = absent_parts names t parts known is in
+        let nothing : one_of t kept ≡ None = ap (option_and_then row_text) (fold_option t names (map part_row parts) (absent_only t names is) ∙ none.0) in
+        subst (IsKept (is_in t parts)) (sym nothing) none.1
+    go (Some b) is =
+        let valueless = is ∙ ap (λ (v : Bool). Some v) (flag_kind t names b fit flag is) in
+        subst (IsKept (is_in t parts)) (sym (flag_of_line names t parts known valueless)) refl
+
 -- ---- the parse
 
 -- an `Ok` comes only at a line, and its matches are those of the line's parts
-pub ok_is_line : (names : List Name) (words : List Text) (m : ArgMatches) → are_names names ≡ true → are_distinct names ≡ true → list_all is_form words ≡ true
+pub ok_is_line : (names : List Name) (words : List Text) (m : ArgMatches) → are_names names ≡ true → list_all fits_kind names ≡ true → list_all is_form words ≡ true
     → fault_of (app_of_names names) words ≡ [] → rows_of (found_of m) ≡ matches_of (app_of_names names) words
     → HasLine names words m
-ok_is_line names words m named distinct forms none rows = record {
+ok_is_line names words m named fitted forms none rows = record {
   line = line_of_parse names words forms none;
   matches = λ parts line.
       let all = rows ∙ (parse_of_line names words parts named line).matches in
       record {
-        values = λ t is. first_value-rows (found_of m) t ∙ ap (first_of t) all ∙ value_of_line names t parts distinct line.known is;
-        flags = λ t is. one_text-rows (found_of m) t ∙ ap (one_of t) all ∙ flag_of_line names t parts line.known is;
+        values = λ t is. first_value-rows (found_of m) t ∙ ap (first_of t) all ∙ value_of_line names t parts fitted line.known is;
+        flags = λ t is. subst (IsKept (is_in t parts)) (sym (one_text-rows (found_of m) t ∙ ap (one_of t) all)) (flag_is_kept names t parts fitted line.known is);
       };
 }
 

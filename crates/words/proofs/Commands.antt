@@ -1,11 +1,15 @@
 -- What the first word says of the command.
-use Rattle.std.proofs.Common.{◌≡◌, ◌∙◌, ℕ, sym, ap, subst, List, [], ◌∷◌, codes, drop, false, true≢false, get_or}
-use Rattle.std.specs.Prelude.{◌==◌, Bool, Option, Some, None, is_some, option_map}
+use Rattle.std.proofs.Common.{◌≡◌, ◌∙◌, ℕ, sym, ap, subst, List, [], ◌∷◌, codes, drop, true, false, true≢false, get_or}
+use Rattle.std.specs.Prelude.{◌==◌, Bool, Option, Some, None, is_some}
+use Rattle.hash_rows.specs.Lawful.{IsLawful}
 use Rattle.hash_rows.specs.declared.options.Options.{Options}
-use Rattle.words.specs.Grammar.{Part, Text}
-use Rattle.words.specs.Options.{Gives, GivesLoad, GivesOptions, GivesRun, options_in}
+use Rattle.hash_rows.specs.declared.options.Sketch.TheVariants.{CountMin}
+use Rattle.words.specs.Grammar.{Text}
+use Rattle.words.specs.Matches.{IsKept}
+use Rattle.words.specs.Options.{Gives, GivesLoad, GivesRun, options_in}
 use Rattle.words.specs.declared.command.Command.{Command}
 use Rattle.words.specs.declared.command.Command.TheVariants.{Run, Load}
+use Rattle.words.proofs.Lawfulness.{lawful}
 
 -- the first word begins with `r`
 abbrev begins_r : List Text → Bool
@@ -28,14 +32,20 @@ pub load_once : (words rest : List Text) (c : Command) → words ≡ codes "load
     → (d : Command) → Gives words d → c ≡ d
 load_once words rest c e once d g = let r = load_gives words rest d e g in once r.0 r.1 r.2 r.4 ∙ sym r.3
 
--- the options of a command are those that parts give
-pub run_options : (rest : List Text) (c : Command) → (o : Options) × (c ≡ Run o) × GivesRun rest o → (parts : List Part) × GivesOptions parts (options_in c)
-run_options rest c r = (r.2.0, subst (λ (d : Command). GivesOptions r.2.0 (options_in d)) (sym r.1) r.2.2)
+-- what a flag is read as, from what is kept of it
+pub kept_flag : (stands : Bool) (kept : Option Text) (read : Bool) → IsKept stands kept → (kept ≡ None → read ≡ false) → (kept ≡ Some (codes "true") → read ≡ true)
+    → (kept ≡ Some (codes "false") → read ≡ false) → read ≡ stands
+kept_flag stands None read is none there gone = none (λ i. None) ∙ sym is
+kept_flag true (Some text) read is none there gone = there (ap (λ (t : Text). Some t) is)
+kept_flag false (Some text) read is none there gone = gone (ap (λ (t : Text). Some t) is)
 
-pub load_options : (rest : List Text) (c : Command) → (n : ℕ) × (k : ℕ) × (o : Options) × (c ≡ Load n k o) × GivesLoad rest n k o
-    → (parts : List Part) × GivesOptions parts (options_in c)
-load_options rest c r = (r.4.0, subst (λ (d : Command). GivesOptions r.4.0 (options_in d)) (sym r.3) r.4.2)
+none_is : (o : Option Text) → is_some o ≡ false → o ≡ None
+none_is None e = λ i. None
+none_is (Some text) e = absurd (true≢false e)
 
-pub no_value : {X Y : Type 0} (f : X → Y) (o : Option X) (v w : Option Y) → is_some o ≡ false → option_map f o ≡ v → v ≡ w → w ≡ None
-no_value f None v w is e g = sym g ∙ sym e
-no_value f (Some x) v w is e g = absurd (true≢false is)
+-- the options of a command are lawful
+pub run_lawful : (rest : List Text) (c : Command) → (o : Options) × (c ≡ Run o) × GivesRun rest o → IsLawful (options_in c)
+run_lawful rest c r = subst (λ (d : Command). IsLawful (options_in d)) (sym r.1) (lawful CountMin _ r.2.0 r.0 (none_is _) r.2.2)
+
+pub load_lawful : (rest : List Text) (c : Command) → (n : ℕ) × (k : ℕ) × (o : Options) × (c ≡ Load n k o) × GivesLoad rest n k o → IsLawful (options_in c)
+load_lawful rest c r = subst (λ (d : Command). IsLawful (options_in d)) (sym r.3) (lawful CountMin _ r.4.0 r.2 (none_is _) r.4.2)

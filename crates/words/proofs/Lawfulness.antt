@@ -1,5 +1,5 @@
 -- The options that parts give are lawful.
-use Rattle.std.proofs.Common.{◌≡◌, ◌≤◌, ◌≢◌, ℕ, true, not, sym, subst, arith, List, [], ◌∷◌, length, Option, Some, None, codes, true≢false, ◌||◌}
+use Rattle.std.proofs.Common.{◌≡◌, ◌≤◌, ◌≢◌, ℕ, true, false, not, refl, sym, subst, arith, List, [], ◌∷◌, length, Option, Some, None, codes, true≢false, ◌||◌}
 use Rattle.std.specs.Prelude.{ℤ, pos, ◌≤ℤ◌, AllPairs, is_some}
 use Rattle.std.proofs.lemmas.Int.{ints}
 use Rattle.hash_rows.specs.Lawful.{IsLawful, Suits}
@@ -44,18 +44,19 @@ watched_differ : (v : Option Text) (ks : List FlowKey) → ReadsKeys v ks → Al
 watched_differ None ks r = no_pairs ks r
 watched_differ (Some t) ks r = r.differ
 
-unwatched : (a v w x : Option Text) (ks : List FlowKey) → not (is_some a || is_some v || is_some w || is_some x) ≡ true → ReadsKeys v ks → ks ≡ []
-unwatched (Some t) v w x ks e r = absurd (true≢false (sym e))
-unwatched None (Some t) w x ks e r = absurd (true≢false (sym e))
-unwatched None None w x ks e r = r
+unwatched : (a v w x keys : Option Text) (ks : List FlowKey) → not (is_some a || is_some v || is_some w || is_some x) ≡ true → (is_some v ≡ false → keys ≡ None)
+    → ReadsKeys keys ks → ks ≡ []
+unwatched (Some t) v w x keys ks e given r = absurd (true≢false (sym e))
+unwatched None (Some t) w x keys ks e given r = absurd (true≢false (sym e))
+unwatched None None w x keys ks e given r = subst (λ (o : Option Text). ReadsKeys o ks) (given refl) r
 
-suits_sketch : (k : Sketch) (parts : List Part) (shape : Shape) (ks : List FlowKey) → suits k parts ≡ true → GivesShape parts k shape
-    → ReadsKeys (value_in (codes "watch") parts) ks → Suits k shape ks
-suits_sketch CountMin parts shape ks e g r = tt
-suits_sketch CountSketch parts shape ks e g r = tt
-suits_sketch LogLog parts shape ks e g r =
+suits_sketch : (k : Sketch) (parts : List Part) (shape : Shape) (keys : Option Text) (ks : List FlowKey) → suits k parts ≡ true → GivesShape parts k shape
+    → (is_some (value_in (codes "watch") parts) ≡ false → keys ≡ None) → ReadsKeys keys ks → Suits k shape ks
+suits_sketch CountMin parts shape keys ks e g given r = tt
+suits_sketch CountSketch parts shape keys ks e g given r = tt
+suits_sketch LogLog parts shape keys ks e g given r =
     let rows = in_range 1 1 1 _ shape.rows (omega arith) (omega arith) g.rows in
-    (omega (arith, rows.0, rows.1), g.registers, unwatched _ _ _ _ ks e r)
+    (omega (arith, rows.0, rows.1), g.registers, unwatched _ _ _ _ keys ks e given r)
 
 is_shape : (k : Sketch) (parts : List Part) (shape : Shape) → GivesShape parts k shape → IsShape shape
 is_shape k parts shape g =
@@ -63,8 +64,9 @@ is_shape k parts shape g =
     let columns = in_range 1 65536 2048 _ shape.columns (omega arith) (omega arith) g.columns in
     record { some_rows = rows.0; rows = omega (arith, rows.1, rows.2); some_columns = columns.0; columns = columns.1 }
 
-pub lawful : (parts : List Part) (o : Options) → GivesOptions parts o → IsLawful o
-lawful parts o g =
+pub lawful : (usual : Sketch) (keys : Option Text) (parts : List Part) (o : Options) → (is_some (value_in (codes "watch") parts) ≡ false → keys ≡ None)
+    → GivesOptions usual keys parts o → IsLawful o
+lawful usual keys parts o given g =
     let workers = in_range 1 16 4 _ o.workers (omega arith) (omega arith) g.workers in
     let threshold = threshold_in_range o.sketch _ o.threshold g.threshold in
     let lane = in_range 1 4096 64 _ o.lane (omega arith) (omega arith) g.lane in
@@ -88,11 +90,11 @@ lawful parts o g =
       round = round.1;
       readers = readers.1;
       asks = asks.1;
-      watch = few_watched _ o.watch.items g.watch;
-      distinct = watched_differ _ o.watch.items g.watch;
+      watch = few_watched keys o.watch.items g.watch;
+      distinct = watched_differ keys o.watch.items g.watch;
       some_heavy = heavy.0;
       heavy = heavy.1;
       some_least = least.0;
       least = least.1;
-      suits = suits_sketch o.sketch parts o.shape o.watch.items g.suited g.shape g.watch;
+      suits = suits_sketch o.sketch parts o.shape keys o.watch.items g.suited g.shape given g.watch;
     }

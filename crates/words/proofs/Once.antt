@@ -96,9 +96,9 @@ same_watch None ks ls p q = p ∙ sym q
 same_watch (Some list) ks ls p q = same_list list ks ls p q
 
 -- parts give at most one set of options
-pub same_options : (parts : List Part) (o d : Options) → GivesOptions parts o → GivesOptions parts d → o ≡ d
-same_options parts o d g h =
-    let sketch = same_choice sketch_text CountMin _ o.sketch d.sketch same_sketch g.sketch h.sketch in
+pub same_options : (usual : Sketch) (keys : Option Text) (parts : List Part) (o d : Options) → GivesOptions usual keys parts o → GivesOptions usual keys parts d → o ≡ d
+same_options usual keys parts o d g h =
+    let sketch = same_choice sketch_text usual _ o.sketch d.sketch same_sketch g.sketch h.sketch in
     let back = λ (P : Sketch → Type 0) (p : P d.sketch). subst P (sym sketch) p in
     let shape = same_shape parts o.sketch o.shape d.shape g.shape (back (λ (s : Sketch). GivesShape parts s d.shape) h.shape) in
     let amount = same_choice amount_text Packets _ o.amount d.amount same_amount g.amount h.amount in

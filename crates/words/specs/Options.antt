@@ -1,5 +1,5 @@
 -- The commands that words give.
-use Rattle.std.specs.Prelude.{◌≡◌, ◌∷◌, ◌||◌, ℕ, Bool, true, not, List, None, is_some, codes}
+use Rattle.std.specs.Prelude.{◌≡◌, ◌∷◌, ◌||◌, ℕ, Bool, true, not, List, Option, is_some, codes}
 use Rattle.hash_rows.specs.Lawful.{IsRegisters}
 use Rattle.hash_rows.specs.OptionTexts.{amount_text, full_text, mode_text, share_text, sketch_text}
 use Rattle.hash_rows.specs.declared.options.Amount.TheVariants.{Packets}
@@ -11,7 +11,8 @@ use Rattle.hash_rows.specs.declared.options.Sketch.{Sketch}
 use Rattle.hash_rows.specs.declared.options.Sketch.TheVariants.{CountMin, LogLog}
 use Rattle.hash_rows.specs.declared.shape.Shape.{Shape}
 use Rattle.words.specs.Grammar.{IsLine, Part, Text, is_in, value_in}
-use Rattle.words.specs.Names.{line_names}
+use Rattle.words.specs.Names.{names_of}
+use Rattle.words.specs.declared.names.Verb.TheVariants.{Run as RunVerb, Load as LoadVerb}
 use Rattle.words.specs.Values.{NeedsNumber, ReadsChoice, ReadsInteger, ReadsKeys, ReadsNumber}
 use Rattle.words.specs.declared.command.Command.{Command}
 use Rattle.words.specs.declared.command.Command.TheVariants.{Run, Load}
@@ -46,9 +47,10 @@ pub record GivesShape (parts : List Part) (sketch : Sketch) (shape : Shape) : Ty
   pub columns : ReadsNumber 1 65536 2048 (value_in (codes "columns") parts) shape.columns
   pub registers : HasRegisters sketch shape.columns
 
--- the parts give these options; the list of watched keys has room for the most that can be given
-pub record GivesOptions (parts : List Part) (o : Options) : Type 0 where
-  pub sketch : ReadsChoice sketch_text CountMin (value_in (codes "sketch") parts) o.sketch
+-- the parts give these options: the usual sketch where none is chosen, and the keys that the text lists, with room for the most
+-- that can be watched
+pub record GivesOptions (usual : Sketch) (keys : Option Text) (parts : List Part) (o : Options) : Type 0 where
+  pub sketch : ReadsChoice sketch_text usual (value_in (codes "sketch") parts) o.sketch
   pub suited : suits o.sketch parts ≡ true
   pub shape : GivesShape parts o.sketch o.shape
   pub amount : ReadsChoice amount_text Packets (value_in (codes "amount") parts) o.amount
@@ -62,20 +64,23 @@ pub record GivesOptions (parts : List Part) (o : Options) : Type 0 where
   pub mode : ReadsChoice mode_text Rounds (value_in (codes "mode") parts) o.mode
   pub readers : ReadsNumber 0 4 0 (value_in (codes "readers") parts) o.readers
   pub asks : ReadsNumber 0 1024 0 (value_in (codes "asks") parts) o.asks
-  pub watch : ReadsKeys (value_in (codes "watch") parts) o.watch.items
+  pub watch : ReadsKeys keys o.watch.items
   pub room : o.watch.room ≡ 16
   pub heavy : ReadsNumber 1 1024 64 (value_in (codes "heavy") parts) o.heavy
   pub least : ReadsInteger 1 1099511627776 1024 (value_in (codes "least") parts) o.least
   pub journal : o.journal ≡ is_in (codes "journal") parts
 
+-- the same, where Count-Min is usual and keys may be watched
+abbrev pub GivesWatched : List Part → Options → Type 0
+GivesWatched parts o = GivesOptions CountMin (value_in (codes "watch") parts) parts o
+
 -- the words behind `run` give the options
 abbrev pub GivesRun : List Text → Options → Type 0
-GivesRun rest o = (parts : List Part) × IsLine line_names parts rest × GivesOptions parts o
-    × (value_in (codes "records") parts ≡ None) × (value_in (codes "start") parts ≡ None)
+GivesRun rest o = (parts : List Part) × IsLine (names_of RunVerb) parts rest × GivesWatched parts o
 
 -- the words behind `load` give the number of records, the start and the options
 abbrev pub GivesLoad : List Text → ℕ → ℕ → Options → Type 0
-GivesLoad rest records start o = (parts : List Part) × IsLine line_names parts rest × GivesOptions parts o
+GivesLoad rest records start o = (parts : List Part) × IsLine (names_of LoadVerb) parts rest × GivesWatched parts o
     × NeedsNumber 0 1048576 (value_in (codes "records") parts) records
     × NeedsNumber 0 4294967295 (value_in (codes "start") parts) start
 

@@ -3,6 +3,7 @@
 #![tactic(auto)]
 
 mod command;
+mod names;
 mod options;
 mod parser;
 mod read;

@@ -1,6 +1,5 @@
-ghost use Rattle.std.specs.Prelude.{◌≡◌, List, true, false, codes};
-ghost use Rattle.words.specs.Grammar.{Part, value_in};
-ghost use Rattle.words.specs.Names.{line_names};
+ghost use Rattle.std.specs.Prelude.{◌≡◌, List, Option, true, false, codes};
+ghost use Rattle.words.specs.Grammar.{Part, Text, is_in};
 ghost use Rattle.words.specs.Matches.{AreMatches};
 ghost use Rattle.words.specs.Values.{Finds, ReadsKeys};
 ghost use Rattle.words.specs.Options.{GivesOptions, GivesShape, HasRegisters, most_rows, usual_rows, usual_threshold, suits};
@@ -51,7 +50,7 @@ fn has_columns(sketch: Sketch, columns: u32) -> bool
 
 // Whether the matches name nothing that the sketch has no use for.
 fn suits(matches: &ArgMatches<'_>, sketch: Sketch) -> bool
-    ensures { (parts : List Part) → AreMatches line_names parts matches.now → result ≡ suits sketch parts }
+    ensures { (parts : List Part) → AreMatches parts matches.now → result ≡ suits sketch parts }
 {
     match sketch {
         Sketch::LogLog => {
@@ -66,7 +65,7 @@ fn suits(matches: &ArgMatches<'_>, sketch: Sketch) -> bool
 
 // The shape that the matches hold.
 fn shape_of(matches: &ArgMatches<'_>, sketch: Sketch) -> Option<Shape>
-    ensures { (parts : List Part) → AreMatches line_names parts matches.now
+    ensures { (parts : List Part) → AreMatches parts matches.now
         → Finds (GivesShape parts sketch) result }
 {
     let usual = usual_rows(sketch);
@@ -78,18 +77,25 @@ fn shape_of(matches: &ArgMatches<'_>, sketch: Sketch) -> Option<Shape>
     Some(Shape { rows, columns })
 }
 
-/// The options that the matches hold, with the keys that they watch.
-pub(crate) fn options_of(matches: &ArgMatches<'_>, watch: Keys) -> Option<Options>
-    ensures { (parts : List Part) → AreMatches line_names parts matches.now
-        → ReadsKeys (value_in (codes "watch") parts) watch.items → watch.room ≡ 16
-        → Finds (GivesOptions parts) result }
+// Whether the matches hold the flag.
+fn has_journal(matches: &ArgMatches<'_>) -> bool
+    ensures { (parts : List Part) → AreMatches parts matches.now → result ≡ is_in (codes "journal") parts }
 {
-    let sketch = sketch_or(matches.get_str("sketch"))?;
+    matches.get_flag("journal")
+}
+
+/// The options that the matches hold, with the keys that they watch.
+pub(crate) fn options_of(matches: &ArgMatches<'_>, usual: Sketch, watch: Keys) -> Option<Options>
+    ensures { (parts : List Part) (keys : Option Text) → AreMatches parts matches.now
+        → ReadsKeys keys watch.items → watch.room ≡ 16
+        → Finds (GivesOptions usual keys parts) result }
+{
+    let sketch = sketch_or(matches.get_str("sketch"), usual)?;
     if !suits(matches, sketch) {
         return None;
     }
-    let usual = usual_threshold(sketch);
-    let threshold = number_or(matches.get_str("threshold"), 1, 1099511627776, usual)?;
+    let otherwise = usual_threshold(sketch);
+    let threshold = number_or(matches.get_str("threshold"), 1, 1099511627776, otherwise)?;
     let shape = shape_of(matches, sketch)?;
     Some(Options {
         sketch,
@@ -107,7 +113,7 @@ pub(crate) fn options_of(matches: &ArgMatches<'_>, watch: Keys) -> Option<Option
         asks: small_or(matches.get_str("asks"), 0, 1024, 0)?,
         heavy: small_or(matches.get_str("heavy"), 1, 1024, 64)?,
         least: least_or(matches.get_str("least"))?,
-        journal: matches.get_flag("journal"),
+        journal: has_journal(matches),
         watch,
     })
 }

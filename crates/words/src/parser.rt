@@ -1,40 +1,17 @@
-ghost use Rattle.std.specs.Prelude.{◌≡◌, IfOk, IfErr, map, true, false, string_bytes};
+ghost use Rattle.std.specs.Prelude.{◌≡◌, ◌++◌, IfOk, IfErr, List, map, true, false, string_bytes};
 ghost use Rattle.std.specs.List.{list_all};
 ghost use Rattle.clap.specs.Words.{app_of, rule_of};
-ghost use Rattle.words.specs.Grammar.{IsNoLine};
-ghost use Rattle.words.specs.Names.{line_names};
+ghost use Rattle.words.specs.Grammar.{IsNoLine, Name};
+ghost use Rattle.words.specs.Names.{names_of};
 ghost use Rattle.words.specs.Forms.{is_form};
-ghost use Rattle.words.specs.Rules.{app_of_names, names_from, told};
+ghost use Rattle.words.specs.Rules.{app_of_names, flag_name, option_name, told};
 ghost use Rattle.words.specs.Matches.{HasLine};
 
 use crate::WordStop;
+use crate::names::{Verb, own_flags, own_options, shared_options};
 use clap::error::ErrorKind;
 use clap::{Arg, ArgAction, ArgMatches, Command as Parser};
 use std::alloc::{AllocError, Global};
-
-static OPTIONS: [&str; 19] = [
-    "rows",
-    "columns",
-    "threshold",
-    "lane",
-    "batch",
-    "round",
-    "amount",
-    "watch",
-    "sketch",
-    "workers",
-    "share",
-    "readers",
-    "asks",
-    "heavy",
-    "least",
-    "records",
-    "start",
-    "full",
-    "mode",
-];
-
-static FLAGS: [&str; 1] = ["journal"];
 
 // An option with one value.
 fn option<'a>(alloc: Global, name: &'a str) -> Arg<'a>
@@ -52,24 +29,48 @@ fn flag<'a>(alloc: Global, name: &'a str) -> Arg<'a>
     Arg::new(alloc, name).long(name).action(ArgAction::SetTrue)
 }
 
-// The parser of these options and flags.
-fn parser_of<'a>(
+// The parser with these options more.
+fn with_options<'a>(
     alloc: Global,
-    options: &[&'a str],
-    flags: &[&'a str],
+    begun: Parser<'a>,
+    names: &[&'a str],
 ) -> Result<Parser<'a>, AllocError>
-    ensures { IfOk result (λ p. app_of p ≡ app_of_names (names_from options.now flags.now)) }
+    ensures { (before : List Name) → app_of begun.entry ≡ app_of_names before
+        → IfOk result (λ p. app_of p ≡ app_of_names (before ++ map option_name names.now)) }
 {
-    let mut parser = Parser::new(alloc, "octo")
-        .no_binary_name(true)
-        .disable_help_flag(true);
-    for name in options {
+    let mut parser = begun;
+    for name in names {
         parser = parser.arg(option(alloc, name))?;
     }
-    for name in flags {
+    Ok(parser)
+}
+
+// The parser with these flags more.
+fn with_flags<'a>(
+    alloc: Global,
+    begun: Parser<'a>,
+    names: &[&'a str],
+) -> Result<Parser<'a>, AllocError>
+    ensures { (before : List Name) → app_of begun.entry ≡ app_of_names before
+        → IfOk result (λ p. app_of p ≡ app_of_names (before ++ map flag_name names.now)) }
+{
+    let mut parser = begun;
+    for name in names {
         parser = parser.arg(flag(alloc, name))?;
     }
     Ok(parser)
+}
+
+// The parser of a command's names.
+fn parser_of<'a>(alloc: Global, verb: Verb) -> Result<Parser<'a>, AllocError>
+    ensures { IfOk result (λ p. app_of p ≡ app_of_names (names_of verb)) }
+{
+    let begun = Parser::new(alloc, "octo")
+        .no_binary_name(true)
+        .disable_help_flag(true);
+    let shared = with_options(alloc, begun, shared_options())?;
+    let whole = with_options(alloc, shared, own_options(verb))?;
+    with_flags(alloc, whole, own_flags(verb))
 }
 
 // Whether the word is no lone hyphen, no `--`, and does not begin with a single hyphen. The parser
@@ -92,15 +93,19 @@ fn are_forms(words: &[String]) -> bool
     true
 }
 
-/// The matches of the words, where they are a line of the grammar.
-pub(crate) fn matches_of<'a>(alloc: Global, words: &'a [String]) -> Result<ArgMatches<'a>, WordStop>
-    ensures ok { IfOk result (HasLine line_names (map string_bytes words.now)) }
-    ensures usage { IfErr result (λ e. e ≡ WordStop.Usage → IsNoLine line_names (map string_bytes words.now)) }
+/// The matches of the words, where they are a line of the command's names.
+pub(crate) fn matches_of<'a>(
+    alloc: Global,
+    verb: Verb,
+    words: &'a [String],
+) -> Result<ArgMatches<'a>, WordStop>
+    ensures ok { IfOk result (HasLine (names_of verb) (map string_bytes words.now)) }
+    ensures usage { IfErr result (λ e. e ≡ WordStop.Usage → IsNoLine (names_of verb) (map string_bytes words.now)) }
 {
     if !are_forms(words) {
         return Err(WordStop::Usage);
     }
-    let parser = match parser_of(alloc, OPTIONS.as_slice(), FLAGS.as_slice()) {
+    let parser = match parser_of(alloc, verb) {
         Ok(parser) => parser,
         Err(_) => return Err(WordStop::NoMemory),
     };

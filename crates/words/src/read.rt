@@ -2,17 +2,17 @@ ghost use Rattle.std.specs.Prelude.{◌≡◌, ℕ, IfOk, IfErr, map, string_byt
 ghost use Rattle.hash_rows.specs.Lawful.{IsLawful};
 ghost use Rattle.hash_rows.specs.declared.options.Options.{Options};
 ghost use Rattle.words.specs.Grammar.{Part};
-ghost use Rattle.words.specs.Names.{line_names};
 ghost use Rattle.words.specs.Matches.{AreMatches};
-ghost use Rattle.words.specs.Options.{Gives, GivesLoad, GivesOptions, GivesRun, options_in};
+ghost use Rattle.words.specs.Options.{Gives, GivesLoad, GivesRun, GivesWatched, options_in};
 
+use crate::names::Verb;
 use crate::options::options_of;
 use crate::parser::matches_of;
 use crate::values::number_of;
 use crate::watch::keys_or;
 use crate::{Command, WordStop};
 use clap::ArgMatches;
-use hash_rows::Options;
+use hash_rows::{Options, Sketch};
 use std::alloc::Global;
 
 /// The command that the words give; the program's name is not among them. `Usage` comes exactly
@@ -39,10 +39,7 @@ fn read_run(alloc: Global, rest: &[String]) -> Result<Command, WordStop>
     ensures once { IfOk result (λ c. (d : Options) → GivesRun (map string_bytes rest.now) d → c ≡ Command.Run d) }
     ensures usage { IfErr result (λ e. e ≡ WordStop.Usage → (o : Options) → GivesRun (map string_bytes rest.now) o → ⊥) }
 {
-    let matches = matches_of(alloc, rest)?;
-    if matches.get_str("records").is_some() || matches.get_str("start").is_some() {
-        return Err(WordStop::Usage);
-    }
+    let matches = matches_of(alloc, Verb::Run, rest)?;
     let options = read_options(alloc, &matches)?;
     Ok(Command::Run(options))
 }
@@ -53,7 +50,7 @@ fn read_load(alloc: Global, rest: &[String]) -> Result<Command, WordStop>
     ensures once { IfOk result (λ c. (n k : ℕ) → (d : Options) → GivesLoad (map string_bytes rest.now) n k d → c ≡ Command.Load n k d) }
     ensures usage { IfErr result (λ e. e ≡ WordStop.Usage → (n k : ℕ) → (o : Options) → GivesLoad (map string_bytes rest.now) n k o → ⊥) }
 {
-    let matches = matches_of(alloc, rest)?;
+    let matches = matches_of(alloc, Verb::Load, rest)?;
     let Some(records) = number_of(matches.get_str("records"), 1048576) else {
         return Err(WordStop::Usage);
     };
@@ -70,14 +67,14 @@ fn read_load(alloc: Global, rest: &[String]) -> Result<Command, WordStop>
 
 // The options of the matches.
 fn read_options(alloc: Global, matches: &ArgMatches<'_>) -> Result<Options, WordStop>
-    ensures ok { (parts : List Part) → AreMatches line_names parts matches.now → IfOk result (GivesOptions parts) }
-    ensures once { (parts : List Part) → AreMatches line_names parts matches.now
-        → IfOk result (λ o. (d : Options) → GivesOptions parts d → o ≡ d) }
-    ensures usage { (parts : List Part) → AreMatches line_names parts matches.now
-        → IfErr result (λ e. e ≡ WordStop.Usage → (o : Options) → GivesOptions parts o → ⊥) }
+    ensures ok { (parts : List Part) → AreMatches parts matches.now → IfOk result (GivesWatched parts) }
+    ensures once { (parts : List Part) → AreMatches parts matches.now
+        → IfOk result (λ o. (d : Options) → GivesWatched parts d → o ≡ d) }
+    ensures usage { (parts : List Part) → AreMatches parts matches.now
+        → IfErr result (λ e. e ≡ WordStop.Usage → (o : Options) → GivesWatched parts o → ⊥) }
 {
     let watch = keys_or(alloc, matches.get_str("watch"))?;
-    match options_of(matches, watch) {
+    match options_of(matches, Sketch::CountMin, watch) {
         Some(options) => Ok(options),
         None => Err(WordStop::Usage),
     }

@@ -76,11 +76,11 @@ pub(crate) fn least_or(text: Option<&str>) -> Option<i64>
 }
 
 #[tactic(auto, unfolding(hash_rows::specs::OptionTexts::sketch_text))]
-pub(crate) fn sketch_or(text: Option<&str>) -> Option<Sketch>
-    ensures { Finds (ReadsChoice sketch_text Sketch.CountMin (option_copied text.entry)) result }
+pub(crate) fn sketch_or(text: Option<&str>, otherwise: Sketch) -> Option<Sketch>
+    ensures { Finds (ReadsChoice sketch_text otherwise (option_copied text.entry)) result }
 {
     let Some(text) = text else {
-        return Some(Sketch::CountMin);
+        return Some(otherwise);
     };
     match text {
         "count-min" => Some(Sketch::CountMin),

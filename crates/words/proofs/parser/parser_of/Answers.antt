@@ -1,15 +1,15 @@
-use Rattle.std.proofs.Common.{◌<◌, length, map, arith}
-use Rattle.words.specs.Rules.{option_name}
-use Rattle.words.proofs.Building.{flag_more, option_more}
+use Rattle.std.proofs.Common.{rules, ◌≡◌, ◌∙◌, ◌++◌, ap, [], map}
+use Rattle.std.proofs.lemmas.Result.{IfOk-weaker}
+use Rattle.clap.specs.Words.{app_of}
+use Rattle.words.specs.Names.{names_of}
+use Rattle.words.specs.Rules.{app_of_names, flag_name, option_name}
 use Rattle.words.proofs.parser.parser_of.Goals as goal
 
-pub loop-name-preserved : goal.loop-name-preserved
-loop-name-preserved c =
-    let lt : c.loop-name.name-index < length c.args.options.now = omega arith in
-    option_more c.args.options.now c.loop-name.name-index _ _ _ _ lt c.loop-name.invariant c.option.ensures.rule (c.in_ok-parser.ensures.shape c.option.ensures.local)
-
-pub loop-name-2-preserved : goal.loop-name-2-preserved
-loop-name-2-preserved c =
-    let lt : c.loop-name-2.name-index < length c.args.flags.now = omega arith in
-    flag_more (map option_name c.args.options.now) c.args.flags.now c.loop-name-2.name-index _ _ _ _ lt c.loop-name-2.invariant c.flag.ensures.rule
-    (c.in_ok-parser-2.ensures.shape c.flag.ensures.local)
+pub returns : goal.returns
+returns c =
+    let begun : app_of c.disable_help_flag-begun.result ≡ app_of_names [] = search rules in
+    let shared = c.in_ok-shared.ensures [] begun in
+    let whole = c.in_ok-whole.ensures _ shared in
+    let names : (map option_name c.shared_options.result.now ++ map option_name c.own_options.result.now) ++ map flag_name c.own_flags.result.now ≡ names_of c.args.verb
+    = λ i. (c.shared_options.ensures i ++ c.own_options.ensures i) ++ c.own_flags.ensures i in
+    IfOk-weaker c.with_flags.result _ _ (λ p is. is ∙ ap app_of_names names) (c.with_flags.ensures _ whole)

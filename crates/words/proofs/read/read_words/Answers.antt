@@ -1,8 +1,6 @@
 use Rattle.std.proofs.Common.{rules, ◌≡◌, ◌∷◌, codes, map, string_bytes}
 use Rattle.std.proofs.lemmas.Result.{IfErr-weaker, IfOk-weaker}
-use Rattle.words.proofs.Commands.{load_gives, load_options, load_once, run_gives, run_options, run_once}
-use Rattle.words.specs.Options.{options_in}
-use Rattle.words.proofs.Lawfulness.{lawful}
+use Rattle.words.proofs.Commands.{load_gives, load_lawful, load_once, run_gives, run_lawful, run_once}
 use Rattle.words.proofs.read.read_words.Goals as goal
 
 pub returns-in-run-clause-once : goal.returns-in-run-clause-once
@@ -11,7 +9,7 @@ returns-in-run-clause-once c =
     IfOk-weaker c.read_run.result _ _ (λ d once. run_once _ _ d words once) c.read_run.ensures.once
 
 pub returns-in-run-clause-lawful : goal.returns-in-run-clause-lawful
-returns-in-run-clause-lawful c = IfOk-weaker c.read_run.result _ _ (λ d ok. let g = run_options _ d ok in lawful g.0 (options_in d) g.1) c.read_run.ensures.ok
+returns-in-run-clause-lawful c = IfOk-weaker c.read_run.result _ _ (run_lawful _) c.read_run.ensures.ok
 
 pub returns-in-run-clause-usage : goal.returns-in-run-clause-usage
 returns-in-run-clause-usage c =
@@ -24,7 +22,7 @@ returns-in-load-clause-once c =
     IfOk-weaker c.read_load.result _ _ (λ d once. load_once _ _ d words once) c.read_load.ensures.once
 
 pub returns-in-load-clause-lawful : goal.returns-in-load-clause-lawful
-returns-in-load-clause-lawful c = IfOk-weaker c.read_load.result _ _ (λ d ok. let g = load_options _ d ok in lawful g.0 (options_in d) g.1) c.read_load.ensures.ok
+returns-in-load-clause-lawful c = IfOk-weaker c.read_load.result _ _ (load_lawful _) c.read_load.ensures.ok
 
 pub returns-in-load-clause-usage : goal.returns-in-load-clause-usage
 returns-in-load-clause-usage c =
