@@ -2,7 +2,8 @@
 use Rattle.std.proofs.Common.{◌≡◌, ◌∙◌, ℕ, ◌-◌, ◌%◌, ◌^◌, ◌<◌, true, true≢false, List, [], ◌∷◌, ◌++◌, length, get_or, decimal, All, Option, Result, Ok, refl, sym, ap, subst, inl, inr, arith, append_assoc, length-append}
 use Rattle.std.proofs.lemmas.Bool.{cases_lt}
 use Rattle.std.proofs.lemmas.Bool.Decides.{nat_tests}
-use Rattle.std.proofs.lemmas.Fmt.{decimal_injective, decimal_is_IsNumeral}
+use Rattle.std.proofs.lemmas.Fmt.{decimal_injective, decimal_is_IsNumeral, parse-decimal}
+use Rattle.std.specs.Str.Parse.{ParsesUnsigned}
 use Rattle.std.proofs.lemmas.List.{get_or_past}
 use Rattle.std.proofs.lemmas.List.Elements.{All-nil, All-cons, All-append, All-from_get_or, All-weaker}
 use Rattle.std.proofs.lemmas.Nat.{from_be_bytes-to_be_bytes_4}
@@ -19,17 +20,20 @@ use Rattle.std.specs.Net.Text.{ipv4_text}
 use Rattle.std.proofs.lemmas.List.Splits.{slice_split_at, slice_split_none}
 use Rattle.std.specs.List.{slice_split}
 use Rattle.std.specs.Option.{MatchOption}
-use Rattle.std.specs.Prelude.{◌==◌, false}
+use Rattle.std.specs.Prelude.{◌==◌, false, Some}
 use Rattle.std.specs.Str.{IsAscii}
 use Rattle.std.specs.declared.net.ipv4_addr.Ipv4Addr.{Ipv4Addr}
 use Rattle.packet_key.specs.Alphabet.{IsOf, Lacks}
 use Rattle.prefixes.specs.declared.network.Prefix.{Prefix}
-use Rattle.prefixes.specs.Networks.{IsNetwork, addresses_in, network_of}
+use Rattle.prefixes.specs.Networks.{IsLength, IsNetwork, addresses_in, network_of}
 use Rattle.prefixes.specs.Texts.{is_text_byte, prefix_text}
 
 module _ {E : Type 0} where
   pub parsed_address : (text : List ℕ) (a : Ipv4Addr) (r : Result Ipv4Addr E) → Parses IsIpv4Text text r → IsIpv4Text text a → r ≡ Ok a
   parsed_address text a r parsed spelled = Parses_gives IsIpv4Text text a r (IsIpv4Text_unique text) spelled parsed
+
+  pub parsed_number : (text : List ℕ) (n : ℕ) (r : Result ℕ E) → ParsesUnsigned 32 10 text r → n < 2 ^ 32 → text ≡ decimal n → r ≡ Ok n
+  parsed_number text n r parsed small spelled = parse-decimal 32 n text r (omega arith) (omega arith) spelled parsed
 
 octets_fit : (n k : ℕ) → get_or (to_be_bytes w32 n) k 0 < 256
 octets_fit n k = grind arith
@@ -147,3 +151,14 @@ one_network p q is too same =
     let small₂ = length_fits q too in
     let lengths : p.length ≡ q.length = decimal_injective _ _ (omega arith) (omega arith) numbers in
     λ i. record { bits = bits i; length = lengths i }
+
+pub same_some : {A : Type 0} {a b : A} → Some a ≡ Some b → a ≡ b
+same_some {A} {a} {b} same = cc
+
+-- the network of a network's own numbers
+pub same_network : (p : Prefix) → IsNetwork p → (bits length : ℕ) → bits ≡ p.bits → length ≡ p.length
+    → (found : Prefix) → found ≡ network_of length bits → found ≡ p
+same_network p is bits length same_bits same_length found made = made ∙ (λ i. network_of (same_length i) (same_bits i)) ∙ own_network p is
+
+pub length_fits_32 : (n : ℕ) → IsLength n → n < 2 ^ 32
+length_fits_32 n is = grind (arith, is)

@@ -8,6 +8,6 @@ mod parse;
 mod text;
 
 pub use laws::{one_text, text_letters};
-pub use network::{Prefix, Prefixes, network_of, prefix_key};
+pub use network::{Prefix, Prefixes, addresses_in, network_of, prefix_key};
 pub use parse::parse_prefix;
 pub use text::prefix_text;

@@ -15,9 +15,9 @@ pub struct Prefix {
 
 pub type Prefixes = Listed<Prefix>;
 
-// How many addresses a network of the length has.
+/// How many addresses a network of the length has.
 #[tactic(auto, unfolding(crate::specs::Networks::addresses_in))]
-pub(crate) fn addresses_in(length: u32) -> u64
+pub fn addresses_in(length: u32) -> u32
     requires { IsLength length }
     ensures { result ≡ addresses_in length }
 {
@@ -36,9 +36,8 @@ pub fn network_of(length: u32, address: u32) -> Prefix
     ensures network { result ≡ network_of length address }
     ensures lawful { IsNetwork result }
 {
-    let behind = u64::from(address) % addresses_in(length);
     Prefix {
-        bits: address - behind as u32,
+        bits: address - address % addresses_in(length),
         length,
     }
 }

@@ -1,4 +1,4 @@
-ghost use Rattle.std.specs.Prelude.{◌≡◌, ◌≢◌, ℕ, Some, IfSome, MatchOption, decimal};
+ghost use Rattle.std.specs.Prelude.{◌≡◌, ◌≢◌, ◌<◌, ◌^◌, ℕ, Some, IfSome, MatchOption, decimal};
 ghost use Rattle.std.specs.declared.net.ipv4_addr.Ipv4Addr.{Ipv4Addr};
 ghost use Rattle.std.specs.Net.Grammar.{IsIpv4Text};
 ghost use Rattle.prefixes.specs.declared.network.Prefix.{Prefix};
@@ -8,16 +8,21 @@ ghost use Rattle.prefixes.specs.Texts.{prefix_text};
 use crate::{Prefix, network_of, prefix_text};
 use std::net::Ipv4Addr;
 
+#[tactic(auto, using(crate::proofs::Texts::parsed_number))]
+fn read_number(text: &str) -> Option<u32>
+    ensures { (n : ℕ) → n < 2 ^ 32 → text.now ≡ decimal n → result ≡ Some n }
+{
+    text.parse().ok()
+}
+
 // The length that the text writes, where it is one of the four.
 fn read_length(text: &str) -> Option<u32>
     ensures lawful { IfSome result IsLength }
-    ensures read { (length : ℕ) → IsLength length → text.now ≡ decimal length → result ≡ Some length }
+    ensures read { (n : ℕ) → IsLength n → text.now ≡ decimal n → result ≡ Some n }
 {
-    match text {
-        "8" => Some(8),
-        "16" => Some(16),
-        "24" => Some(24),
-        "32" => Some(32),
+    let length = read_number(text)?;
+    match length {
+        8 | 16 | 24 | 32 => Some(length),
         _ => None,
     }
 }

@@ -1,7 +1,7 @@
 ghost use Rattle.std.specs.Prelude.{◌≡◌, ◌+◌, ◌≤◌, ◌<◌, ◌++◌, length, take, decimal};
 ghost use Rattle.std.specs.Int.{to_be_bytes, w32};
 ghost use Rattle.std.specs.Net.Text.{ipv4_text};
-ghost use Rattle.prefixes.specs.Networks.{IsNetwork};
+ghost use Rattle.prefixes.specs.Networks.{IsLength, IsNetwork};
 ghost use Rattle.prefixes.specs.Texts.{prefix_text};
 
 use crate::Prefix;
@@ -17,6 +17,18 @@ fn put_byte(into: &mut [u8], at: usize, byte: u8) -> usize
 {
     let mut digits = Buffer::new();
     put(into, at, digits.format(byte).as_bytes())
+}
+
+// Writes one of the four lengths at the place.
+#[tactic(auto, using(crate::proofs::Lengths::length_is_short))]
+fn put_length(into: &mut [u8], at: usize, bits: u32) -> usize
+    requires bits { IsLength bits }
+    requires room { at + 2 ≤ length into.old }
+    ensures most { result ≤ at + 2 }
+    ensures front { take result into.new ≡ take at into.old ++ decimal bits }
+{
+    let mut digits = Buffer::new();
+    put(into, at, digits.format(bits).as_bytes())
 }
 
 // Writes the address at the front.
@@ -45,5 +57,5 @@ pub fn prefix_text(prefix: &Prefix, into: &mut [u8; 20]) -> usize
 {
     let at = put_address(into, prefix.bits);
     let at = put(into, at, b"/");
-    put_byte(into, at, prefix.length as u8)
+    put_length(into, at, prefix.length)
 }

@@ -1,0 +1,7 @@
+//! The report of IPv4 source networks: what it tells, and its text.
+#![tactic(auto)]
+
+mod lines;
+mod report;
+
+pub use report::{LevelReport, LevelReports, PrefixReport, write_prefixes};

@@ -1,0 +1,82 @@
+-- What is found among one candidate more.
+use Rattle.std.proofs.Common.{◌≡◌, ◌∙◌, ◌<◌, ◌≤◌, ◌+◌, ℕ, ℤ, Bool, true, false, cond, List, [], ◌∷◌, ◌++◌, length, map, filter, take, get_or, refl, sym, ap, subst, arith, append_assoc, length-append}
+use Rattle.std.specs.Prelude.{nat_lt, int_le}
+use Rattle.std.specs.List.{flat_map, range_with_len}
+use Rattle.std.proofs.lemmas.Bool.{lt-ltb, le-ltb}
+use Rattle.std.proofs.lemmas.List.{append-nil, length-take, map-append, take_all, take_more, take-append-le}
+use Rattle.std.proofs.lemmas.List.Concat.{flat_map-append}
+use Rattle.std.proofs.lemmas.List.Elements.{filter-append}
+use Rattle.std.proofs.lemmas.List.FromFn.{map-range_with_len_more}
+use Rattle.hash_rows.specs.Tables.{TableView}
+use Rattle.prefixes.specs.declared.network.Prefix.{Prefix}
+use Rattle.prefix_stack.specs.declared.hit.Hit.{Hit}
+use Rattle.prefix_stack.specs.declared.hit.Reached.{Reached}
+use Rattle.prefix_stack.specs.Descent.{IsLevelOf, candidates_of, child_of, children_of, hit_by, hits_of, prefixes_of, qualified_of}
+
+qualified_more : (table : TableView) (least : ℤ) (cs : List Prefix) (c : Prefix)
+    → qualified_of table least (cs ++ c ∷ []) ≡ qualified_of table least cs ++ cond (int_le least (hit_by table c).estimate) (hit_by table c ∷ []) []
+unfolding qualified_of
+qualified_more table least cs c =
+    ap (filter (λ hit. int_le least hit.estimate)) (map-append (hit_by table) cs (c ∷ []))
+    ∙ filter-append (λ hit. int_le least hit.estimate) (map (hit_by table) cs) (hit_by table c ∷ [])
+
+module _ (table : TableView) (limit : ℕ) (least : ℤ) (cs : List Prefix) (c : Prefix) where
+  -- it doesn't qualify
+  pub left_out : int_le least (hit_by table c).estimate ≡ false → (r : Reached) → IsLevelOf table limit least cs r → IsLevelOf table limit least (cs ++ c ∷ []) r
+  left_out fails r h =
+      let same : qualified_of table least (cs ++ c ∷ []) ≡ qualified_of table least cs =
+      qualified_more table least cs c ∙ ap (λ b. qualified_of table least cs ++ cond b (hit_by table c ∷ []) []) fails ∙ append-nil (qualified_of table least cs) in
+      record {
+        hits = h.hits ∙ ap (take limit) (sym same);
+        more = h.more ∙ ap (λ (q : List Hit). nat_lt limit (length q)) (sym same);
+        room = h.room;
+      }
+
+  with_it : int_le least (hit_by table c).estimate ≡ true → qualified_of table least (cs ++ c ∷ []) ≡ qualified_of table least cs ++ hit_by table c ∷ []
+  with_it passes = qualified_more table least cs c ∙ ap (λ b. qualified_of table least cs ++ cond b (hit_by table c ∷ []) []) passes
+
+  -- it qualifies, and there is room
+  pub taken_in : int_le least (hit_by table c).estimate ≡ true → (r new : Reached) → IsLevelOf table limit least cs r → length r.hits.items < r.hits.room
+      → new.hits.items ≡ r.hits.items ++ hit_by table c ∷ [] → new.hits.room ≡ r.hits.room → new.more ≡ r.more
+      → IsLevelOf table limit least (cs ++ c ∷ []) new
+  taken_in passes r new h space items room more =
+      let q = qualified_of table least cs in
+      let cut : length (take limit q) < limit = omega (arith, space, ap length h.hits, h.room) in
+      let short : length q < limit = omega (arith, cut, length-take limit q) in
+      let longer = length-append q (hit_by table c ∷ []) in
+      let fits : length (q ++ hit_by table c ∷ []) ≤ limit = omega (arith, short, longer) in
+      record {
+        hits = items ∙ ap (λ (l : List Hit). l ++ hit_by table c ∷ []) (h.hits ∙ take_all limit q (omega (arith, short))) ∙ sym (take_all limit (q ++ hit_by table c ∷ []) fits) ∙ ap (take limit) (sym (with_it passes));
+        more = more ∙ h.more ∙ le-ltb limit (length q) (omega (arith, short)) ∙ sym (le-ltb limit (length (q ++ hit_by table c ∷ [])) fits) ∙ ap (λ (l : List Hit). nat_lt limit (length l)) (sym (with_it passes));
+        room = room ∙ h.room;
+      }
+
+  -- it qualifies, and there is no room
+  pub left_over : int_le least (hit_by table c).estimate ≡ true → (r new : Reached) → IsLevelOf table limit least cs r → r.hits.room ≤ length r.hits.items
+      → new.hits ≡ r.hits → new.more ≡ true
+      → IsLevelOf table limit least (cs ++ c ∷ []) new
+  left_over passes r new h full hits more =
+      let q = qualified_of table least cs in
+      let cut : limit ≤ length (take limit q) = omega (arith, full, ap length h.hits, h.room) in
+      let long : limit ≤ length q = omega (arith, cut, length-take limit q) in
+      let longer = length-append q (hit_by table c ∷ []) in
+      record {
+        hits = ap (λ l. l.items) hits ∙ h.hits ∙ sym (take-append-le limit q (hit_by table c ∷ []) long) ∙ ap (take limit) (sym (with_it passes));
+        more = more ∙ sym (lt-ltb limit (length (q ++ hit_by table c ∷ [])) (omega (arith, long, longer))) ∙ ap (λ (l : List Hit). nat_lt limit (length l)) (sym (with_it passes));
+        room = ap (λ l. l.room) hits ∙ h.room;
+      }
+
+-- one child more
+pub child_more : (cs : List Prefix) (p : Prefix) (k : ℕ)
+    → (cs ++ map (child_of p) (range_with_len 0 k)) ++ child_of p k ∷ [] ≡ cs ++ map (child_of p) (range_with_len 0 (k + 1))
+child_more cs p k = append_assoc cs (map (child_of p) (range_with_len 0 k)) (child_of p k ∷ []) ∙ ap (λ (l : List Prefix). cs ++ l) (sym (map-range_with_len_more (child_of p) 0 k k refl))
+
+-- one parent more
+pub parent_more : (hits : List Hit) (k : ℕ) (d : Hit) → k < length hits
+    → candidates_of (prefixes_of (take k hits)) ++ children_of (get_or hits k d).prefix ≡ candidates_of (prefixes_of (take (k + 1) hits))
+unfolding candidates_of
+parent_more hits k d lt =
+    let more = take_more hits k d lt in
+    let mapped = map-append (λ (hit : Hit). hit.prefix) (take k hits) (get_or hits k d ∷ []) in
+    let joined = flat_map-append children_of (prefixes_of (take k hits)) ((get_or hits k d).prefix ∷ []) in
+    sym (ap (λ (l : List Hit). flat_map children_of (prefixes_of l)) more ∙ ap (flat_map children_of) mapped ∙ joined ∙ ap (λ (l : List Prefix). flat_map children_of (prefixes_of (take k hits)) ++ l) (append-nil (children_of (get_or hits k d).prefix)))

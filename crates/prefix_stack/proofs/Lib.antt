@@ -1,0 +1,6 @@
+mod Amounts
+mod Candidates
+pub mod Descending
+mod Finding
+mod Members
+mod Watching
