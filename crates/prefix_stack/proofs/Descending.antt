@@ -60,7 +60,7 @@ pub record Descends (tables : List TableView) (limit : ℕ) (least : ℤ) (place
   pub few : length hits ≤ place * limit
   pub are_parents : place < 4 → All (IsParent (8 * (place + 1))) (prefixes_of parents)
 
-length_at : (place : ℕ) → place < 4 → IsLength (8 * (place + 1))
+pub length_at : (place : ℕ) → place < 4 → IsLength (8 * (place + 1))
 length_at place lt = grind arith
 
 pub descent_begins : (tables : List TableView) (limit : ℕ) (least : ℤ) (parents : List Hit) (more : List Bool) → prefixes_of parents ≡ everything ∷ []

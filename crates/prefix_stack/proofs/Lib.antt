@@ -1,4 +1,5 @@
 mod Amounts
+mod Answering
 mod Candidates
 pub mod Descending
 mod Finding

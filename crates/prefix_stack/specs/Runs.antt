@@ -1,5 +1,5 @@
 -- The run of each length.
-use Rattle.std.specs.Prelude.{◌≡◌, ◌≢◌, ◌≤◌, ◌≤ℤ◌, ◌<◌, ◌+◌, ◌*◌, ◌==◌, ℕ, pos, List, [], length, map, filter, All, AllPairs, Some, slice_get}
+use Rattle.std.specs.Prelude.{◌≡◌, ◌≢◌, ◌≤◌, ◌≤ℤ◌, ◌<◌, ◌+◌, ◌*◌, ◌==◌, ℕ, pos, List, [], length, map, filter, All, AllPairs, slice_index_or}
 use Rattle.listed.specs.Listed.{Listed}
 use Rattle.hash_rows.specs.declared.answer.Answer.{Answer}
 use Rattle.hash_rows.specs.declared.options.Options.{Options}
@@ -49,11 +49,11 @@ pub record IsStackRun (o : Options) : Type 0 where
 -- what the table of a network's length says of it is at least what its packets amount to
 abbrev pub IsNeverBelow : List Packet → List TableView → Type 0
 IsNeverBelow packets tables =
-    (k : ℕ) (table : TableView) (p : Prefix) → slice_get tables k ≡ Some table → IsNetwork p → p.length ≡ 8 * (k + 1)
-    → pos (network_amount packets p) ≤ℤ (hit_by table p).estimate
+    (k : ℕ) (d : TableView) (p : Prefix) → k < 4 → p.length ≡ 8 * (k + 1)
+    → pos (network_amount packets p) ≤ℤ (hit_by (slice_index_or tables k d) p).estimate
 
--- by length upwards, the answers of each
-pub record HaveAnswers (packets : List Packet) (o : Options) (watch : List Prefix) (rows : List (Listed Answer)) : Type 0 where
-  pub four : length rows ≡ 4
-  pub each : (k : ℕ) (row : Listed Answer) → slice_get rows k ≡ Some row
-      → AreLevelAnswers (level_packets (8 * (k + 1)) packets) (level_options o watch (8 * (k + 1))) row.items
+-- by length upwards, the answers of so many lengths
+pub record HaveAnswers (packets : List Packet) (o : Options) (watch : List Prefix) (n : ℕ) (rows : List (Listed Answer)) : Type 0 where
+  pub len : length rows ≡ n
+  pub each : (k : ℕ) (d : Listed Answer) → k < n
+      → AreLevelAnswers (level_packets (8 * (k + 1)) packets) (level_options o watch (8 * (k + 1))) (slice_index_or rows k d).items
