@@ -14,6 +14,7 @@ use Rattle.packet_key.proofs.EqualKeys.{eq-same_key}
 use Rattle.hash_rows.specs.Amounts.{key_amount, total_amount}
 use Rattle.hash_rows.specs.declared.shape.Packet.{Packet}
 use Rattle.hash_rows.specs.declared.shape.Shape.{Shape}
+use Rattle.hash_rows.specs.Sequential.{sequential_table}
 use Rattle.hash_rows.specs.Shapes.{IsShape}
 use Rattle.count_min.proofs.NeverBelow.{never_below}
 use Rattle.prefixes.specs.declared.network.Prefix.{Prefix}
@@ -72,11 +73,12 @@ level_total length (packet ∷ packets) =
 -- the estimate on the table of its length is never below
 pub level_never_below : (shape : Shape) → IsShape shape → (packets : List Packet) → total_amount packets < 2 ^ 63 → (length : ℕ) (p : Prefix) → p.length ≡ length
     → pos (network_amount packets p) ≤ℤ (hit_by (level_table shape packets length) p).estimate
-unfolding level_table
+unfolding level_table sequential_table
 level_never_below shape lawful packets total length p at =
     let most = level_total p.length packets in
     let least = amount_least packets p in
-    let below = never_below shape lawful (level_packets p.length packets) (prefix_key p) (omega (arith, most, total)) in
+    let below : pos (key_amount (level_packets p.length packets) (prefix_key p)) ≤ℤ (hit_by (level_table shape packets p.length) p).estimate =
+    never_below shape lawful (level_packets p.length packets) (prefix_key p) (omega (arith, most, total)) in
     subst (λ n. pos (network_amount packets p) ≤ℤ (hit_by (level_table shape packets n) p).estimate) at (omega (arith, ints, least, below))
 
 from_parent : (length shorter : ℕ) (p : Prefix) → IsLength length → p.length ≡ length → shorter + 8 ≡ length → (key : FlowKey) (amount : ℕ)
@@ -105,3 +107,11 @@ unfolding level_packets
 packets_more bits packets k d lt =
     sym (ap (flat_map (network_packets bits)) (take_more packets k d lt) ∙ flat_map-append (network_packets bits) (take k packets) (get_or packets k d ∷ [])
     ∙ ap (λ (l : List Packet). flat_map (network_packets bits) (take k packets) ++ l) (append-nil (network_packets bits (get_or packets k d))))
+
+pub packets_none : (bits : ℕ) → level_packets bits [] ≡ []
+unfolding level_packets
+packets_none bits = refl
+
+pub packets_step : (bits : ℕ) (packets : List Packet) (k : ℕ) (d : Packet) (old new : List Packet) → k < length packets → old ≡ level_packets bits (take k packets)
+    → new ≡ old ++ network_packets bits (get_or packets k d) → new ≡ level_packets bits (take (k + 1) packets)
+packets_step bits packets k d old new lt before is = is ∙ ap (λ (l : List Packet). l ++ network_packets bits (get_or packets k d)) before ∙ packets_more bits packets k d lt

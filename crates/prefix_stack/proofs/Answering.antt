@@ -57,5 +57,5 @@ four_tables shape packets tables is = ap length is
 pub tables_never_below : (shape : Shape) → IsShape shape → (packets : List Packet) → total_amount packets < 2 ^ 63 → (tables : List TableView) → tables ≡ map (table_at shape packets) (range_with_len 0 4)
     → IsNeverBelow packets tables
 tables_never_below shape lawful packets total tables is k d p lt at =
-    let table : slice_index_or tables k d ≡ table_at shape packets k = ap (λ (l : List TableView). get_or l k d) is ∙ get_or-map-range_with_len (table_at shape packets) 0 4 k k d lt refl in
+    let table : slice_index_or tables k d ≡ table_at shape packets k = ap (λ (l : List TableView). get_or l k d) is ∙ get_or-map-range_with_len (table_at shape packets) 0 4 k k d lt (omega arith) in
     rw table (level_never_below shape lawful packets total (8 * (k + 1)) p at)

@@ -106,7 +106,7 @@ pub children_are : (length : ℕ) (p : Prefix) → IsParent length p → All (Is
 unfolding children_of child_of
 children_are length p is i d lt =
     let few : i < 256 = omega (arith, lt, length-map-range_with_len (child_of p) 0 256) in
-    let at = get_or-map-range_with_len (child_of p) 0 256 i i d few refl in
+    let at = get_or-map-range_with_len (child_of p) 0 256 i i d few (omega arith) in
     subst (IsOfLength length) (sym at) (record { network = child_is_network length p i is few; at_length = is.shorter })
 
 -- the network that is 8 bits shorter
@@ -125,7 +125,7 @@ child_of_parent length shorter p is at next =
     let bits : (p.bits - p.bits % addresses_in shorter) + k * addresses_in (shorter + 8) ≡ p.bits = ap (λ n. (p.bits - p.bits % addresses_in shorter) + k * addresses_in n) next ∙ number.1 in
     let long : shorter + 8 ≡ p.length = next ∙ sym at in
     let same : child_of (parent_of shorter p) k ≡ p = λ i. record { bits = bits i; length = long i } in
-    (k, omega (arith, number.0, length-map-range_with_len (child_of (parent_of shorter p)) 0 256), get_or-map-range_with_len (child_of (parent_of shorter p)) 0 256 k k p number.0 refl ∙ same)
+    (k, omega (arith, number.0, length-map-range_with_len (child_of (parent_of shorter p)) 0 256), get_or-map-range_with_len (child_of (parent_of shorter p)) 0 256 k k p number.0 (omega arith) ∙ same)
 
 -- the network that is 8 bits shorter, where its length is one of the four
 pub parent_is_network : (length shorter : ℕ) (p : Prefix) → IsNetwork p → p.length ≡ length → shorter + 8 ≡ length → IsLength shorter → IsNetwork (parent_of shorter p)

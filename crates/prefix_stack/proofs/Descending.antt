@@ -31,15 +31,15 @@ candidates_are length (p ∷ parents) are =
     (candidates_are length parents (λ i d lt. are (suc i) d (omega (arith, lt))))
 
 -- and so are hits
-hits_are : (table : TableView) (limit : ℕ) (least : ℤ) (length : ℕ) (cs : List Prefix) → All (IsOfLength length) cs
-    → All (λ hit. IsOfLength length hit.prefix) (hits_of table limit least cs)
+hits_are : (table : TableView) (limit : ℕ) (least : ℤ) (bits : ℕ) (cs : List Prefix) → All (IsOfLength bits) cs
+    → All (λ hit. IsOfLength bits hit.prefix) (hits_of table limit least cs)
 unfolding qualified_of
-hits_are table limit least length cs are =
-    let hits : All (λ hit. IsOfLength length hit.prefix) (map (hit_by table) cs) = λ i d lt.
-    let within = omega (arith, lt, length-map cs (hit_by table)) in
-    subst (λ hit. IsOfLength length hit.prefix) (sym (get_or-map (hit_by table) cs i d.prefix d within)) (are i d.prefix within) in
-    All-take (λ hit. IsOfLength length hit.prefix) limit (filter (λ hit. int_le least hit.estimate) (map (hit_by table) cs))
-    (All-filter (λ hit. int_le least hit.estimate) (λ hit. IsOfLength length hit.prefix) (map (hit_by table) cs) hits)
+hits_are table limit least bits cs are =
+    let hits : All (λ hit. IsOfLength bits hit.prefix) (map (hit_by table) cs) = λ i d lt.
+    let within : i < length cs = omega (arith, lt, length-map cs (hit_by table)) in
+    subst (λ hit. IsOfLength bits hit.prefix) (sym (get_or-map (hit_by table) cs i d.prefix d within)) (are i d.prefix within) in
+    All-take (λ hit. IsOfLength bits hit.prefix) limit (filter (λ hit. int_le least hit.estimate) (map (hit_by table) cs))
+    (All-filter (λ hit. int_le least hit.estimate) (λ hit. IsOfLength bits hit.prefix) (map (hit_by table) cs) hits)
 
 -- networks of a length are parents of those that are 8 bits longer
 next_parent : (length longer : ℕ) → length + 8 ≡ longer → IsLength longer → (p : Prefix) → IsOfLength length p → IsParent longer p
@@ -100,7 +100,7 @@ one_level_more tables limit least place parents hits more h lt four many table a
       more_is = take_more_set more place r.more (omega (arith, lt, many)) ∙ ap (λ (l : List Bool). l ++ r.more ∷ []) h.more_is ∙ ap (λ b. map (λ l. l.more) h.done ++ b ∷ []) found.more ∙ sym (map-append (λ l. l.more) h.done (level ∷ []));
       few = omega (arith, length-append hits r.hits.items, h.few, taken);
       are_parents = λ later i d within.
-          let inside = omega (arith, within, length-map r.hits.items (λ (hit : Hit). hit.prefix)) in
+          let inside : i < length r.hits.items = omega (arith, within, length-map r.hits.items (λ (hit : Hit). hit.prefix)) in
           let is : IsOfLength (8 * (place + 1)) (get_or r.hits.items i (record { prefix = d; estimate = pos 0 })).prefix = rw found.hits (now i (record { prefix = d; estimate = pos 0 }) (omega (arith, inside, ap length found.hits))) in
           rw (get_or-map (λ (hit : Hit). hit.prefix) r.hits.items i (record { prefix = d; estimate = pos 0 }) d inside) (next_parent (8 * (place + 1)) (8 * (place + 1 + 1)) (omega arith) (length_at (place + 1) later) _ is);
     }

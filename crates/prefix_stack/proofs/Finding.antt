@@ -1,17 +1,20 @@
 -- What is found among one candidate more.
-use Rattle.std.proofs.Common.{◌≡◌, ◌∙◌, ◌<◌, ◌≤◌, ◌+◌, ℕ, ℤ, Bool, true, false, cond, List, [], ◌∷◌, ◌++◌, length, map, filter, take, get_or, refl, sym, ap, subst, arith, append_assoc, length-append}
+use Rattle.std.proofs.Common.{◌≡◌, ◌∙◌, ◌<◌, ◌≤◌, ◌+◌, ◌≤ℤ◌, ◌<ℤ◌, All, ℕ, ℤ, Bool, true, false, cond, List, [], ◌∷◌, ◌++◌, length, map, filter, take, get_or, refl, sym, ap, subst, arith, append_assoc, length-append}
 use Rattle.std.specs.Prelude.{nat_lt, int_le}
 use Rattle.std.specs.List.{flat_map, range_with_len}
 use Rattle.std.proofs.lemmas.Bool.{lt-ltb, le-ltb}
-use Rattle.std.proofs.lemmas.List.{append-nil, length-take, map-append, take_all, take_more, take-append-le}
+use Rattle.std.proofs.lemmas.List.{append-nil, get_or-map, length-map, length-take, map-append, take_all, take_more, take-append-le}
 use Rattle.std.proofs.lemmas.List.Concat.{flat_map-append}
 use Rattle.std.proofs.lemmas.List.Elements.{filter-append}
 use Rattle.std.proofs.lemmas.List.FromFn.{map-range_with_len_more}
 use Rattle.hash_rows.specs.Tables.{TableView}
+use Rattle.hash_rows.specs.Sketches.{count_min_estimate}
+use Rattle.packet_key.specs.declared.key.FlowKey.{FlowKey}
 use Rattle.prefixes.specs.declared.network.Prefix.{Prefix}
+use Rattle.prefixes.specs.Networks.{prefix_key}
 use Rattle.prefix_stack.specs.declared.hit.Hit.{Hit}
 use Rattle.prefix_stack.specs.declared.hit.Reached.{Reached}
-use Rattle.prefix_stack.specs.Descent.{IsLevelOf, candidates_of, child_of, children_of, hit_by, hits_of, prefixes_of, qualified_of}
+use Rattle.prefix_stack.specs.Descent.{IsLevelOf, IsParent, candidates_of, child_of, children_of, hit_by, hits_of, prefixes_of, qualified_of}
 
 qualified_more : (table : TableView) (least : ℤ) (cs : List Prefix) (c : Prefix)
     → qualified_of table least (cs ++ c ∷ []) ≡ qualified_of table least cs ++ cond (int_le least (hit_by table c).estimate) (hit_by table c ∷ []) []
@@ -69,7 +72,7 @@ module _ (table : TableView) (limit : ℕ) (least : ℤ) (cs : List Prefix) (c :
 -- one child more
 pub child_more : (cs : List Prefix) (p : Prefix) (k : ℕ)
     → (cs ++ map (child_of p) (range_with_len 0 k)) ++ child_of p k ∷ [] ≡ cs ++ map (child_of p) (range_with_len 0 (k + 1))
-child_more cs p k = append_assoc cs (map (child_of p) (range_with_len 0 k)) (child_of p k ∷ []) ∙ ap (λ (l : List Prefix). cs ++ l) (sym (map-range_with_len_more (child_of p) 0 k k refl))
+child_more cs p k = append_assoc cs (map (child_of p) (range_with_len 0 k)) (child_of p k ∷ []) ∙ ap (λ (l : List Prefix). cs ++ l) (sym (map-range_with_len_more (child_of p) 0 k k (omega arith)))
 
 -- one parent more
 pub parent_more : (hits : List Hit) (k : ℕ) (d : Hit) → k < length hits
@@ -80,3 +83,26 @@ parent_more hits k d lt =
     let mapped = map-append (λ (hit : Hit). hit.prefix) (take k hits) (get_or hits k d ∷ []) in
     let joined = flat_map-append children_of (prefixes_of (take k hits)) ((get_or hits k d).prefix ∷ []) in
     sym (ap (λ (l : List Hit). flat_map children_of (prefixes_of l)) more ∙ ap (flat_map children_of) mapped ∙ joined ∙ ap (λ (l : List Prefix). flat_map children_of (prefixes_of (take k hits)) ++ l) (append-nil (children_of (get_or hits k d).prefix)))
+
+-- nothing is found among no candidates
+pub nothing_yet : (table : TableView) (limit : ℕ) (least : ℤ) (r : Reached) → r.hits.items ≡ [] → r.more ≡ false → r.hits.room ≡ limit → IsLevelOf table limit least (candidates_of []) r
+unfolding candidates_of qualified_of
+nothing_yet table limit least r none more room = record {
+  hits = none ∙ sym (take_all limit [] (omega arith));
+  more = more ∙ sym (le-ltb limit 0 (omega arith));
+  room = room;
+}
+
+-- what the table says of a candidate
+pub estimate_is : (table : TableView) (c : Prefix) (key : FlowKey) (e : ℤ) → key ≡ prefix_key c → e ≡ count_min_estimate table.shape table.cells key → e ≡ (hit_by table c).estimate
+estimate_is table c key e same is = is ∙ ap (count_min_estimate table.shape table.cells) same
+
+pub too_low : (least e f : ℤ) → e ≡ f → e <ℤ least → int_le least f ≡ false
+too_low least e f same low = let lower : f <ℤ least = subst (λ z. z <ℤ least) same low in grind (arith, lower)
+
+pub high_enough : (least e f : ℤ) → e ≡ f → least ≤ℤ e → int_le least f ≡ true
+high_enough least e f same high = let higher : least ≤ℤ f = subst (λ z. least ≤ℤ z) same high in grind (arith, higher)
+
+pub parent_at : (bits : ℕ) (hits : List Hit) → All (IsParent bits) (prefixes_of hits) → (i : ℕ) (d : Hit) → i < length hits → IsParent bits (get_or hits i d).prefix
+parent_at bits hits are i d lt =
+    subst (IsParent bits) (get_or-map (λ (hit : Hit). hit.prefix) hits i d d.prefix lt) (are i d.prefix (omega (arith, lt, length-map hits (λ (hit : Hit). hit.prefix))))

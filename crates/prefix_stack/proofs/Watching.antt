@@ -2,8 +2,8 @@
 use Rattle.std.proofs.Common.{◌≡◌, ◌≢◌, ◌∙◌, ◌<◌, ◌≤◌, ◌+◌, ◌*◌, ℕ, zero, suc, Bool, true, false, cond, List, [], ◌∷◌, ◌++◌, length, map, filter, take, get_or, refl, sym, ap, subst, arith, All, Some}
 use Rattle.std.specs.Prelude.{◌==◌, AllPairs, slice_get}
 use Rattle.std.specs.List.{range_with_len}
-use Rattle.std.proofs.lemmas.List.{get_or-map, length-map, map-append}
-use Rattle.std.proofs.lemmas.List.Elements.{All-filter, filter_more}
+use Rattle.std.proofs.lemmas.List.{get_or-map, length-map, map-append, take_more}
+use Rattle.std.proofs.lemmas.List.Elements.{All-filter, filter-append}
 use Rattle.packet_key.specs.declared.key.FlowKey.{FlowKey}
 use Rattle.hash_rows.specs.declared.options.Options.{Options}
 use Rattle.hash_rows.specs.declared.shape.Shape.{Shape}
@@ -61,15 +61,17 @@ unfolding watched_at
 few_watched bits watch are = omega (arith, few_filtered (λ p. p.length == bits) watch, are.most)
 
 -- one network more
-pub watched_more : (bits : ℕ) (watch : List Prefix) (k : ℕ) (d : Prefix) → k < length watch
-    → map prefix_key (watched_at bits (take (k + 1) watch)) ≡ map prefix_key (watched_at bits (take k watch)) ++ cond ((get_or watch k d).length == bits) (prefix_key (get_or watch k d) ∷ []) []
+pub watched_step : (bits : ℕ) (watch : List Prefix) (k : ℕ) (d : Prefix) (old new : List FlowKey) → k < length watch → old ≡ map prefix_key (watched_at bits (take k watch))
+    → new ≡ old ++ map prefix_key (watched_at bits (get_or watch k d ∷ [])) → new ≡ map prefix_key (watched_at bits (take (k + 1) watch))
 unfolding watched_at
-watched_more bits watch k d lt =
-    ap (map prefix_key) (filter_more (λ p. p.length == bits) watch k d lt) ∙ map-append prefix_key (filter (λ p. p.length == bits) (take k watch)) _
-    ∙ ap (λ (l : List FlowKey). map prefix_key (filter (λ p. p.length == bits) (take k watch)) ++ l) (by ((get_or watch k d).length == bits)) where
-      by : (b : Bool) → map prefix_key (cond b (get_or watch k d ∷ []) []) ≡ cond b (prefix_key (get_or watch k d) ∷ []) []
-      by true = refl
-      by false = refl
+watched_step bits watch k d old new lt before is =
+    let more = ap (filter (λ (p : Prefix). p.length == bits)) (take_more watch k d lt) ∙ filter-append (λ p. p.length == bits) (take k watch) (get_or watch k d ∷ []) in
+    is ∙ ap (λ (l : List FlowKey). l ++ map prefix_key (filter (λ p. p.length == bits) (get_or watch k d ∷ []))) before
+    ∙ sym (ap (map prefix_key) more ∙ map-append prefix_key (filter (λ p. p.length == bits) (take k watch)) (filter (λ p. p.length == bits) (get_or watch k d ∷ [])))
+
+pub watched_none : (bits : ℕ) → map prefix_key (watched_at bits []) ≡ []
+unfolding watched_at
+watched_none bits = refl
 
 suits_count_min : (sketch : Sketch) → sketch ≡ CountMin → (shape : Shape) (keys : List FlowKey) → Suits sketch shape keys
 suits_count_min sketch is shape keys = subst (λ s. Suits s shape keys) (sym is) tt
@@ -77,8 +79,33 @@ suits_count_min sketch is shape keys = subst (λ s. Suits s shape keys) (sym is)
 -- the options of a level are lawful
 pub level_lawful : (o : Options) (watch : List Prefix) (bits : ℕ) → IsStackRun o → AreWatched watch → IsLawful (level_options o watch bits)
 unfolding level_options
-level_lawful o watch bits is are = record is.lawful {
+level_lawful o watch bits is are = record {
+  shape = is.lawful.shape;
+  some_workers = is.lawful.some_workers;
+  workers = is.lawful.workers;
+  some_threshold = is.lawful.some_threshold;
+  threshold = is.lawful.threshold;
+  some_lane = is.lawful.some_lane;
+  lane = is.lawful.lane;
+  some_batch = is.lawful.some_batch;
+  batch = is.lawful.batch;
+  some_round = is.lawful.some_round;
+  round = is.lawful.round;
+  readers = is.lawful.readers;
+  asks = is.lawful.asks;
   watch = omega (arith, length-map (watched_at bits watch) prefix_key, few_watched bits watch are);
   distinct = keys_differ (watched_at bits watch) (watched_differ bits watch are);
+  some_heavy = is.lawful.some_heavy;
+  heavy = is.lawful.heavy;
+  some_least = is.lawful.some_least;
+  least = is.lawful.least;
   suits = suits_count_min o.sketch is.sketch o.shape (map prefix_key (watched_at bits watch));
 }
+
+pub level_sketch : (o : Options) (watch : List Prefix) (bits : ℕ) → (level_options o watch bits).sketch ≡ o.sketch
+unfolding level_options
+level_sketch o watch bits = refl
+
+pub level_shape : (o : Options) (watch : List Prefix) (bits : ℕ) → (level_options o watch bits).shape ≡ o.shape
+unfolding level_options
+level_shape o watch bits = refl

@@ -1,5 +1,5 @@
-ghost use Rattle.std.specs.Prelude.{◌≡◌, ◌≤◌, length, map, IfOk};
-ghost use Rattle.prefixes.specs.Networks.{IsLength, prefix_key};
+ghost use Rattle.std.specs.Prelude.{◌≡◌, ◌<◌, ◌≤◌, ◌+◌, ◌++◌, ◌∷◌, [], length, map, IfOk};
+ghost use Rattle.prefixes.specs.Networks.{IsLength, IsNetwork, prefix_key};
 ghost use Rattle.prefix_stack.specs.Descent.{IsFound, MissesNone};
 ghost use Rattle.prefix_stack.specs.Levels.{level_packets, level_table, level_tables};
 ghost use Rattle.prefix_stack.specs.Runs.{AreLevelAnswers, AreWatched, IsNeverBelow, HaveAnswers, IsStackRun, level_options, watched_at};
@@ -17,6 +17,20 @@ use shares::amounts_fit;
 use std::alloc::Global;
 use std::thread::Threads;
 
+// Adds the key of the network, where it has the length.
+#[tactic(auto, unfolding(crate::specs::Runs::watched_at))]
+fn add_key(keys: &mut Keys, bits: u32, prefix: &Prefix)
+    requires network { IsNetwork prefix.now }
+    requires room { length keys.old.items < keys.old.room }
+    ensures items { keys.new.items ≡ keys.old.items ++ map prefix_key (watched_at bits (prefix.now ∷ [])) }
+    ensures few { length keys.new.items ≤ length keys.old.items + 1 }
+    ensures room { keys.new.room ≡ keys.old.room }
+{
+    if prefix.length == bits {
+        keys.push(prefix_key(prefix));
+    }
+}
+
 // The keys of the watched networks of the length.
 fn keys_at(alloc: Global, watch: &[Prefix], bits: u32) -> Result<Keys, NoMemory>
     requires { AreWatched watch.now }
@@ -25,9 +39,7 @@ fn keys_at(alloc: Global, watch: &[Prefix], bits: u32) -> Result<Keys, NoMemory>
 {
     let mut keys = Listed::new(alloc, 16)?;
     for prefix in watch {
-        if prefix.length == bits {
-            keys.push(prefix_key(prefix));
-        }
+        add_key(&mut keys, bits, prefix);
     }
     Ok(keys)
 }
