@@ -4,4 +4,4 @@
 mod lines;
 mod report;
 
-pub use report::{LevelReport, LevelReports, PrefixReport, write_prefixes};
+pub use report::{PrefixReport, write_prefixes};

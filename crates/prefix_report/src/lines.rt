@@ -1,4 +1,4 @@
-ghost use Rattle.std.specs.Prelude.{◌≡◌, ◌+◌, ◌*◌, ◌≤◌, ◌++◌, length, map, All};
+ghost use Rattle.std.specs.Prelude.{◌≡◌, ◌+◌, ◌*◌, ◌≤◌, ◌++◌, ◌∷◌, [], length, map, All};
 ghost use Rattle.std.specs.List.{flat_map};
 ghost use Rattle.flow_base.specs.Causes.{HasCause};
 ghost use Rattle.flow_base.specs.Writing.{Writes};
@@ -8,7 +8,7 @@ ghost use Rattle.push_history.specs.Answers.{parts_of};
 ghost use Rattle.octo_text.specs.JournalText.{spaced_signed};
 ghost use Rattle.octo_text.specs.Lines.{count_line, words_line};
 ghost use Rattle.octo_text.specs.ReportText.{skipped_line};
-ghost use Rattle.prefix_report.specs.StackText.{FitsLine, answer_line, heavy_line, hit_line, sketch_line};
+ghost use Rattle.prefix_report.specs.StackText.{FitsLine, answer_line, at_length, heavy_line, hit_line, sketch_line};
 
 use flow_base::{Failed, Sink};
 use hash_rows::{Amount, Answer, Shape, Tallies};
@@ -84,13 +84,13 @@ pub(crate) fn write_skipped<T: Sink>(out: &mut T, skipped: &Tallies) -> Result<(
 }
 
 #[tactic(auto, unfolding(crate::specs::StackText::heavy_line))]
-pub(crate) fn write_heavy<T: Sink>(out: &mut T, count: u32, more: bool) -> Result<(), Failed>
+pub(crate) fn write_heavy<T: Sink>(out: &mut T, count: u64, more: bool) -> Result<(), Failed>
     ensures writes { Writes (T.holds out.old) (T.holds out.new) (heavy_line count more) result }
     ensures cause { HasCause (T.faults out.old) (T.faults out.new) result }
 {
     let others = if more { 1 } else { 0 };
     let mut line = Line::new();
-    line.named(b"heavy ", u64::from(count));
+    line.named(b"heavy ", count);
     line.named(b" more ", others);
     line.send(out)
 }
@@ -113,17 +113,50 @@ fn write_hit<T: Sink>(out: &mut T, name: &[u8], hit: &Hit) -> Result<(), Failed>
     line.send(out)
 }
 
-/// Writes a line for each network.
-pub(crate) fn write_hits<T: Sink>(out: &mut T, name: &[u8], hits: &[Hit]) -> Result<(), Failed>
+// The same where the network has the length.
+#[tactic(auto, unfolding(crate::specs::StackText::at_length))]
+fn write_hit_at<T: Sink>(out: &mut T, name: &[u8], bits: u32, hit: &Hit) -> Result<(), Failed>
+    requires name { length name.now ≤ 20 }
+    requires network { IsNetwork hit.now.prefix }
+    ensures writes { Writes (T.holds out.old) (T.holds out.new) (flat_map (hit_line name.now) (at_length bits (hit.now ∷ []))) result }
+    ensures cause { HasCause (T.faults out.old) (T.faults out.new) result }
+{
+    if hit.prefix.length != bits {
+        return Ok(());
+    }
+    write_hit(out, name, hit)
+}
+
+/// Writes a line for each network of the length.
+pub(crate) fn write_hits<T: Sink>(
+    out: &mut T,
+    name: &[u8],
+    bits: u32,
+    hits: &[Hit],
+) -> Result<(), Failed>
     requires name { length name.now ≤ 20 }
     requires networks { All (λ hit. IsNetwork hit.prefix) hits.now }
-    ensures writes { Writes (T.holds out.old) (T.holds out.new) (flat_map (hit_line name.now) hits.now) result }
+    ensures writes { Writes (T.holds out.old) (T.holds out.new) (flat_map (hit_line name.now) (at_length bits hits.now)) result }
     ensures cause { HasCause (T.faults out.old) (T.faults out.new) result }
 {
     for hit in hits {
-        write_hit(out, name, hit)?;
+        write_hit_at(out, name, bits, hit)?;
     }
     Ok(())
+}
+
+/// How many of the networks have the length.
+#[tactic(auto, unfolding(crate::specs::StackText::at_length))]
+pub(crate) fn count_at(bits: u32, hits: &[Hit]) -> u64
+    ensures { result ≡ length (at_length bits hits.now) }
+{
+    let mut count = 0;
+    for hit in hits {
+        if hit.prefix.length == bits {
+            count += 1;
+        }
+    }
+    count
 }
 
 // Adds the estimates, each behind a space.

@@ -1,31 +1,16 @@
-ghost use Rattle.std.specs.Prelude.{◌≡◌, All};
-ghost use Rattle.std.specs.List.{flat_map};
+ghost use Rattle.std.specs.Prelude.{◌<◌, ◌≤◌, All, length};
+ghost use Rattle.std.specs.List.{enumerate_from, flat_map};
 ghost use Rattle.flow_base.specs.Causes.{HasCause};
 ghost use Rattle.flow_base.specs.Writing.{Writes};
-ghost use Rattle.prefix_report.specs.StackText.{IsSound, IsSoundLevel, capture_lines, level_lines, report_text};
+ghost use Rattle.prefix_report.specs.StackText.{FitsLine, IsSound, capture_lines, level_lines, report_text};
 
 use crate::lines::{
-    write_answers, write_count, write_heavy, write_hits, write_sketch, write_skipped, write_words,
+    count_at, write_answers, write_count, write_heavy, write_hits, write_sketch, write_skipped,
+    write_words,
 };
 use flow_base::{Failed, Sink};
 use hash_rows::{Amount, Answers, Shape, Tallies};
-use listed::Listed;
-use prefix_stack::Hits;
-
-/// What is told of one length.
-#[derive(Drop)]
-pub struct LevelReport {
-    pub bits: u32,
-    pub answers: Answers,
-    /// The watched networks of the length, in the order given.
-    pub watch: Hits,
-    /// The hits, by address.
-    pub hits: Hits,
-    /// Whether there are others.
-    pub more: bool,
-}
-
-pub type LevelReports = Listed<LevelReport>;
+use prefix_stack::{AnswerRows, Found, Hits};
 
 /// What a report of networks tells.
 #[derive(Drop)]
@@ -43,8 +28,11 @@ pub struct PrefixReport {
     pub cut: u32,
     /// What all IPv4 packets amount to.
     pub total: u64,
-    /// By length upwards.
-    pub levels: LevelReports,
+    /// The watched networks, in the order given, with what the tables of their lengths say.
+    pub watch: Hits,
+    /// What readers were answered, by length upwards.
+    pub answers: AnswerRows,
+    pub found: Found,
 }
 
 fn write_capture<T: Sink>(out: &mut T, report: &PrefixReport) -> Result<(), Failed>
@@ -59,25 +47,36 @@ fn write_capture<T: Sink>(out: &mut T, report: &PrefixReport) -> Result<(), Fail
     write_count(out, b"total", report.total)
 }
 
-fn write_level<T: Sink>(out: &mut T, level: &LevelReport) -> Result<(), Failed>
-    requires { IsSoundLevel level.now }
-    ensures writes { Writes (T.holds out.old) (T.holds out.new) (level_lines level.now) result }
+fn write_level<T: Sink>(
+    out: &mut T,
+    report: &PrefixReport,
+    place: usize,
+    answers: &Answers,
+) -> Result<(), Failed>
+    requires place { place < 4 }
+    requires fit { All FitsLine answers.now.items }
+    requires sound { IsSound report.now }
+    ensures writes { Writes (T.holds out.old) (T.holds out.new) (level_lines report.now (place, answers.now)) result }
     ensures cause { HasCause (T.faults out.old) (T.faults out.new) result }
 {
-    write_count(out, b"level", u64::from(level.bits))?;
-    write_answers(out, level.answers.as_slice())?;
-    write_hits(out, b"watch", level.watch.as_slice())?;
-    write_heavy(out, level.hits.len(), level.more)?;
-    write_hits(out, b"prefix", level.hits.as_slice())
+    let bits = 8 * (place as u32 + 1);
+    let hits = report.found.hits.as_slice();
+    write_count(out, b"level", u64::from(bits))?;
+    write_answers(out, answers.as_slice())?;
+    write_hits(out, b"watch", bits, report.watch.as_slice())?;
+    write_heavy(out, count_at(bits, hits), report.found.more[place])?;
+    write_hits(out, b"prefix", bits, hits)
 }
 
-fn write_levels<T: Sink>(out: &mut T, levels: &[LevelReport]) -> Result<(), Failed>
-    requires { All IsSoundLevel levels.now }
-    ensures writes { Writes (T.holds out.old) (T.holds out.new) (flat_map level_lines levels.now) result }
+fn write_levels<T: Sink>(out: &mut T, report: &PrefixReport, rows: &[Answers]) -> Result<(), Failed>
+    requires few { length rows.now ≤ 4 }
+    requires fit { All (λ row. All FitsLine row.items) rows.now }
+    requires sound { IsSound report.now }
+    ensures writes { Writes (T.holds out.old) (T.holds out.new) (flat_map (level_lines report.now) (enumerate_from 0 rows.now)) result }
     ensures cause { HasCause (T.faults out.old) (T.faults out.new) result }
 {
-    for level in levels {
-        write_level(out, level)?;
+    for (place, answers) in rows.iter().enumerate() {
+        write_level(out, report, place, answers)?;
     }
     Ok(())
 }
@@ -93,6 +92,6 @@ pub fn write_prefixes<T: Sink>(out: &mut T, report: &PrefixReport) -> Result<(),
     write_words(out, b"octosketch prefix 1")?;
     write_sketch(out, &report.shape, report.amount)?;
     write_capture(out, report)?;
-    write_levels(out, report.levels.as_slice())?;
+    write_levels(out, report, report.answers.as_slice())?;
     write_words(out, b"end")
 }

@@ -6,7 +6,7 @@ use Rattle.std.proofs.lemmas.Bool.{ltb-false}
 use Rattle.std.proofs.lemmas.Int.{ints}
 use Rattle.std.proofs.lemmas.List.{append-nil, drop_all, drop_more, get_or-map, length-map, map-append, take_all, take_more_set, length-take}
 use Rattle.std.proofs.lemmas.List.Concat.{flat_map-append}
-use Rattle.std.proofs.lemmas.List.Elements.{All-append, All-filter, All-nil, All-take, Contains-append_left, Contains-append_right}
+use Rattle.std.proofs.lemmas.List.Elements.{All-append, All-filter, All-nil, All-take, All-weaker, Contains-append_left, Contains-append_right}
 use Rattle.hash_rows.specs.Amounts.{total_amount}
 use Rattle.hash_rows.specs.declared.shape.Packet.{Packet}
 use Rattle.hash_rows.specs.declared.shape.Shape.{Shape}
@@ -58,6 +58,7 @@ pub record Descends (tables : List TableView) (limit : ℕ) (least : ℤ) (place
   pub hits_are : hits ≡ flat_map (λ level. level.hits) done
   pub more_is : take place more ≡ map (λ level. level.more) done
   pub few : length hits ≤ place * limit
+  pub are_networks : All (λ hit. IsNetwork hit.prefix) hits
   pub are_parents : place < 4 → All (IsParent (8 * (place + 1))) (prefixes_of parents)
 
 pub length_at : (place : ℕ) → place < 4 → IsLength (8 * (place + 1))
@@ -73,6 +74,7 @@ descent_begins tables limit least parents more is = record {
   hits_are = refl;
   more_is = refl;
   few = omega arith;
+  are_networks = All-nil (λ (hit : Hit). IsNetwork hit.prefix);
   are_parents = λ lt. rw is (λ i d within. first i d within);
 } where
   first : (i : ℕ) (d : Prefix) → i < 1 → IsParent 8 (get_or (everything ∷ []) i d)
@@ -99,6 +101,8 @@ one_level_more tables limit least place parents hits more h lt four many table a
       hits_are = ap (λ (l : List Hit). l ++ r.hits.items) h.hits_are ∙ ap (λ (l : List Hit). flat_map (λ l. l.hits) h.done ++ l) (found.hits ∙ sym (append-nil level.hits)) ∙ sym (flat_map-append (λ l. l.hits) h.done (level ∷ []));
       more_is = take_more_set more place r.more (omega (arith, lt, many)) ∙ ap (λ (l : List Bool). l ++ r.more ∷ []) h.more_is ∙ ap (λ b. map (λ l. l.more) h.done ++ b ∷ []) found.more ∙ sym (map-append (λ l. l.more) h.done (level ∷ []));
       few = omega (arith, length-append hits r.hits.items, h.few, taken);
+      are_networks = All-append (λ (hit : Hit). IsNetwork hit.prefix) hits r.hits.items h.are_networks
+          (rw found.hits (All-weaker (λ (hit : Hit). IsOfLength (8 * (place + 1)) hit.prefix) (λ (hit : Hit). IsNetwork hit.prefix) (λ hit is. is.network) _ now));
       are_parents = λ later i d within.
           let inside : i < length r.hits.items = omega (arith, within, length-map r.hits.items (λ (hit : Hit). hit.prefix)) in
           let is : IsOfLength (8 * (place + 1)) (get_or r.hits.items i (record { prefix = d; estimate = pos 0 })).prefix = rw found.hits (now i (record { prefix = d; estimate = pos 0 }) (omega (arith, inside, ap length found.hits))) in

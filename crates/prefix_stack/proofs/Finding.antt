@@ -1,6 +1,6 @@
 -- What is found among one candidate more.
 use Rattle.std.proofs.Common.{◌≡◌, ◌∙◌, ◌<◌, ◌≤◌, ◌+◌, ◌≤ℤ◌, ◌<ℤ◌, All, ℕ, ℤ, Bool, true, false, cond, List, [], ◌∷◌, ◌++◌, length, map, filter, take, get_or, refl, sym, ap, subst, arith, append_assoc, length-append}
-use Rattle.std.specs.Prelude.{nat_lt, int_le}
+use Rattle.std.specs.Prelude.{nat_lt, int_le, int_lt}
 use Rattle.std.specs.List.{flat_map, range_with_len}
 use Rattle.std.proofs.lemmas.Bool.{lt-ltb, le-ltb}
 use Rattle.std.proofs.lemmas.List.{append-nil, get_or-map, length-map, length-take, map-append, take_all, take_more, take-append-le}
@@ -97,11 +97,17 @@ nothing_yet table limit least r none more room = record {
 pub estimate_is : (table : TableView) (c : Prefix) (key : FlowKey) (e : ℤ) → key ≡ prefix_key c → e ≡ count_min_estimate table.shape table.cells key → e ≡ (hit_by table c).estimate
 estimate_is table c key e same is = is ∙ ap (count_min_estimate table.shape table.cells) same
 
-pub too_low : (least e f : ℤ) → e ≡ f → e <ℤ least → int_le least f ≡ false
-too_low least e f same low = let lower : f <ℤ least = subst (λ z. z <ℤ least) same low in grind (arith, lower)
+is_below : (a b : ℤ) → int_lt a b ≡ true → a <ℤ b
+is_below a b is = grind arith
 
-pub high_enough : (least e f : ℤ) → e ≡ f → least ≤ℤ e → int_le least f ≡ true
-high_enough least e f same high = let higher : least ≤ℤ f = subst (λ z. least ≤ℤ z) same high in grind (arith, higher)
+not_below : (a b : ℤ) → int_lt a b ≡ false → b ≤ℤ a
+not_below a b is = grind arith
+
+pub too_low : (least e f : ℤ) → e ≡ f → int_lt e least ≡ true → int_le least f ≡ false
+too_low least e f same low = let lower : f <ℤ least = subst (λ z. z <ℤ least) same (is_below e least low) in grind (arith, lower)
+
+pub high_enough : (least e f : ℤ) → e ≡ f → int_lt e least ≡ false → int_le least f ≡ true
+high_enough least e f same high = let higher : least ≤ℤ f = subst (λ z. least ≤ℤ z) same (not_below e least high) in grind (arith, higher)
 
 pub parent_at : (bits : ℕ) (hits : List Hit) → All (IsParent bits) (prefixes_of hits) → (i : ℕ) (d : Hit) → i < length hits → IsParent bits (get_or hits i d).prefix
 parent_at bits hits are i d lt =

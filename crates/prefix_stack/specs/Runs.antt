@@ -10,7 +10,7 @@ use Rattle.hash_rows.specs.Lawful.{IsLawful}
 use Rattle.hash_rows.specs.Tables.{TableView}
 use Rattle.push_history.specs.declared.event.Event.{Event}
 use Rattle.push_history.specs.Answers.{parts_of}
-use Rattle.push_history.specs.Journal.{Journal, journal_of, terms_of}
+use Rattle.push_history.specs.Journal.{journal_of, keys_of, terms_of}
 use Rattle.push_history.specs.LagRun.{lag_run}
 use Rattle.push_history.specs.Rounds.{AreRounds}
 use Rattle.round_law.specs.Outcome.{IsNearAnswer}
@@ -33,11 +33,12 @@ watched_at length watch = filter (λ p. p.length == length) watch
 unfoldable pub level_options : Options → List Prefix → ℕ → Options
 level_options o watch length = record o { watch = record { items = map prefix_key (watched_at length watch); room = 16 } }
 
--- the answers of the round schedule on these packets, and each is near the true estimate
+-- the answers of the round schedule on these packets: each has an estimate for each asked key, and is near the true one
 pub record AreLevelAnswers (packets : List Packet) (o : Options) (answers : List Answer) : Type 0 where
   pub events : List Event
   pub schedule : AreRounds (terms_of packets o) o events
   pub answers_are : map parts_of answers ≡ (journal_of packets o events).answers
+  pub shown : All (λ a. length a.shown.items ≡ length (keys_of o)) answers
   pub near : All (IsNearAnswer (terms_of packets o) o (lag_run (terms_of packets o) o.readers events)) answers
 
 -- the options ask for a Count-Min in rounds

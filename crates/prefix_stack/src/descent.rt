@@ -1,8 +1,9 @@
-ghost use Rattle.std.specs.Prelude.{◌≡◌, ◌≤◌, ◌<◌, ◌+◌, ◌*◌, ◌^◌, ◌++◌, ◌∷◌, ℕ, List, [], length, IfOk};
+ghost use Rattle.std.specs.Prelude.{◌≡◌, ◌≤◌, ◌<◌, ◌+◌, ◌*◌, ◌^◌, ◌++◌, ◌∷◌, ℕ, List, [], All, length, IfOk};
 ghost use Rattle.hash_rows.specs.declared.shape.Packet.{Packet};
 ghost use Rattle.hash_rows.specs.Amounts.{total_amount};
 ghost use Rattle.hash_rows.specs.declared.shape.Shape.{Shape};
 ghost use Rattle.hash_rows.specs.Shapes.{IsShape};
+ghost use Rattle.prefixes.specs.Networks.{IsNetwork};
 ghost use Rattle.prefix_stack.specs.Descent.{IsFound, MissesNone, everything, prefixes_of};
 ghost use Rattle.prefix_stack.specs.Levels.{level_tables};
 
@@ -50,6 +51,7 @@ pub fn descend(
     requires four { length tables.now ≡ 4 }
     requires limit { (1 ≤ limit) × (limit ≤ 1024) }
     ensures found { IfOk result (λ found. IsFound tables.now limit least found.hits.items found.more) }
+    ensures networks { IfOk result (λ found. All (λ hit. IsNetwork hit.prefix) found.hits.items) }
     ensures complete { IfOk result (λ found. (shape : Shape) (packets : List Packet) → IsShape shape → total_amount packets < 2 ^ 63
         → tables.now ≡ level_tables shape packets → MissesNone packets least found.hits.items found.more) }
 {

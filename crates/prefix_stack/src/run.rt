@@ -1,4 +1,4 @@
-ghost use Rattle.std.specs.Prelude.{◌≡◌, ◌<◌, ◌≤◌, ◌+◌, ◌++◌, ◌∷◌, [], length, map, IfOk};
+ghost use Rattle.std.specs.Prelude.{◌≡◌, ◌<◌, ◌≤◌, ◌+◌, ◌++◌, ◌∷◌, [], All, length, map, IfOk};
 ghost use Rattle.prefixes.specs.Networks.{IsLength, IsNetwork, prefix_key};
 ghost use Rattle.prefix_stack.specs.Descent.{IsFound, MissesNone};
 ghost use Rattle.prefix_stack.specs.Levels.{level_packets, level_table, level_tables};
@@ -114,6 +114,7 @@ pub fn run_levels<R: Threads + Sync>(
     ensures tables { IfOk result (λ s. s.tables.items ≡ level_tables options.now.shape packets.now) }
     ensures answers { IfOk result (λ s. HaveAnswers packets.now options.now watch.now 4 s.answers.items) }
     ensures found { IfOk result (λ s. IsFound s.tables.items options.now.heavy options.now.least s.found.hits.items s.found.more) }
+    ensures networks { IfOk result (λ s. All (λ hit. IsNetwork hit.prefix) s.found.hits.items) }
     ensures never_below { IfOk result (λ s. IsNeverBelow packets.now s.tables.items) }
     ensures complete { IfOk result (λ s. MissesNone packets.now options.now.least s.found.hits.items s.found.more) }
 {

@@ -10,19 +10,19 @@ returns-in_err-write_count-clause-writes g c =
 pub returns-in_err-write_answers-clause-writes : goal.returns-in_err-write_answers-clause-writes
 unfolding level_lines
 returns-in_err-write_answers-clause-writes g c =
-    writes_front _ _ _ _ c.from_residual-in_err-write_answers.ensures.0 (stop _ (stop _ (stop _ (then_stop c.in_ok-write_count.ensures.writes (rw c.as_slice.ensures at c.in_err-write_answers.ensures.writes).err))))
+    writes_front _ _ _ _ c.from_residual-in_err-write_answers.ensures.0 (stop _ (stop _ (stop _ (then_stop c.in_ok-write_count.ensures.writes (rw c.as_slice-2.ensures at c.in_err-write_answers.ensures.writes).err))))
 
 pub returns-in_err-write_hits-clause-writes : goal.returns-in_err-write_hits-clause-writes
 unfolding level_lines
 returns-in_err-write_hits-clause-writes g c =
-    writes_front _ _ _ _ c.from_residual-in_err-write_hits.ensures.0 (stop _ (stop _ (then_stop (writes_then _ c.in_ok-write_count.ensures.writes (rw c.as_slice.ensures at c.in_ok-write_answers.ensures.writes)) (rw c.as_slice-2.ensures at c.in_err-write_hits.ensures.writes).err)))
+    writes_front _ _ _ _ c.from_residual-in_err-write_hits.ensures.0 (stop _ (stop _ (then_stop (writes_then _ c.in_ok-write_count.ensures.writes (rw c.as_slice-2.ensures at c.in_ok-write_answers.ensures.writes)) (rw c.as_slice-3.ensures at c.in_err-write_hits.ensures.writes).err)))
 
 pub returns-in_err-write_heavy-clause-writes : goal.returns-in_err-write_heavy-clause-writes
 unfolding level_lines
 returns-in_err-write_heavy-clause-writes g c =
-    writes_front _ _ _ _ c.from_residual-in_err-write_heavy.ensures.0 (stop _ (then_stop (writes_then _ (writes_then _ c.in_ok-write_count.ensures.writes (rw c.as_slice.ensures at c.in_ok-write_answers.ensures.writes)) (rw c.as_slice-2.ensures at c.in_ok-write_hits.ensures.writes)) (rw c.len.ensures at c.in_err-write_heavy.ensures.writes).err))
+    writes_front _ _ _ _ c.from_residual-in_err-write_heavy.ensures.0 (stop _ (then_stop (writes_then _ (writes_then _ c.in_ok-write_count.ensures.writes (rw c.as_slice-2.ensures at c.in_ok-write_answers.ensures.writes)) (rw c.as_slice-3.ensures at c.in_ok-write_hits.ensures.writes)) (rw c.count_at.ensures at c.in_err-write_heavy.ensures.writes).err))
 
 pub returns-clause-writes : goal.returns-clause-writes
 unfolding level_lines
 returns-clause-writes g c =
-    writes_then _ (writes_then _ (writes_then _ (writes_then _ c.in_ok-write_count.ensures.writes (rw c.as_slice.ensures at c.in_ok-write_answers.ensures.writes)) (rw c.as_slice-2.ensures at c.in_ok-write_hits.ensures.writes)) (rw c.len.ensures at c.in_ok-write_heavy.ensures.writes)) (rw c.as_slice-3.ensures at c.write_hits-2.ensures.writes)
+    writes_then _ (writes_then _ (writes_then _ (writes_then _ c.in_ok-write_count.ensures.writes (rw c.as_slice-2.ensures at c.in_ok-write_answers.ensures.writes)) (rw c.as_slice-3.ensures at c.in_ok-write_hits.ensures.writes)) (rw c.count_at.ensures at c.in_ok-write_heavy.ensures.writes)) (rw c.as_slice.ensures at c.write_hits-2.ensures.writes)
