@@ -1,7 +1,10 @@
-use Rattle.std.proofs.Common.{◌≡◌, ◌∙◌, arith, map, subst}
+use Rattle.std.proofs.Common.{rules, ◌≡◌, ◌∙◌, List, arith, map, subst}
 use Rattle.std.specs.List.{range_with_len}
+use Rattle.hash_rows.specs.Tables.{TableView}
 use Rattle.octo_engine.proofs.Beginning.{few_amounts}
+use Rattle.prefix_stack.specs.Descent.{IsFound}
 use Rattle.prefix_stack.proofs.Answering.{are_level_tables, rows_more, table_at, tables_len, tables_more, tables_never_below}
+use Rattle.prefix_stack.proofs.Descending.{misses_none}
 use Rattle.prefix_stack.proofs.run.run_levels.Goals as goal
 
 pub push-requires : goal.push-requires
@@ -33,5 +36,7 @@ returns-clause-never_below g c =
 
 pub returns-clause-complete : goal.returns-clause-complete
 returns-clause-complete g c =
-    c.in_ok-found.ensures.complete c.args.options.now.shape c.args.packets.now c.requires.options.lawful.shape (few_amounts c.args.packets.now c.amounts_fit.ensures c.requires.few)
-    (c.as_slice.ensures ∙ returns-clause-tables g c)
+    let o = c.args.options.now in
+    let found : IsFound c.loop-place.tables.items o.heavy o.least c.in_ok-found.found.hits.items c.in_ok-found.found.more = search rules in
+    misses_none o.shape c.requires.options.lawful.shape c.args.packets.now (few_amounts c.args.packets.now c.amounts_fit.ensures c.requires.few) o.heavy o.least c.in_ok-found.found.hits.items c.in_ok-found.found.more
+    (subst (λ (ts : List TableView). IsFound ts o.heavy o.least c.in_ok-found.found.hits.items c.in_ok-found.found.more) (returns-clause-tables g c) found)
