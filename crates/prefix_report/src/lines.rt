@@ -2,11 +2,12 @@ ghost use Rattle.std.specs.Prelude.{◌≡◌, ◌+◌, ◌*◌, ◌≤◌, ◌+
 ghost use Rattle.std.specs.List.{flat_map};
 ghost use Rattle.flow_base.specs.Causes.{HasCause};
 ghost use Rattle.flow_base.specs.Writing.{Writes};
+ghost use Rattle.hash_rows.specs.declared.options.Sketch.{Sketch};
 ghost use Rattle.hash_rows.specs.OptionTexts.{amount_text};
 ghost use Rattle.prefixes.specs.Networks.{IsNetwork};
 ghost use Rattle.push_history.specs.Answers.{parts_of};
 ghost use Rattle.octo_text.specs.JournalText.{spaced_signed};
-ghost use Rattle.octo_text.specs.Lines.{count_line, words_line};
+ghost use Rattle.octo_text.specs.Lines.{count_line, sketch_words, words_line};
 ghost use Rattle.octo_text.specs.ReportText.{skipped_line};
 ghost use Rattle.prefix_report.specs.StackText.{FitsLine, answer_line, at_length, heavy_line, hit_line, sketch_line};
 
@@ -51,7 +52,22 @@ fn amount_word(amount: Amount) -> &'static [u8]
     }
 }
 
-#[tactic(auto, unfolding(crate::specs::StackText::sketch_line, octo_text::specs::Lines::sketch_words, hash_rows::specs::OptionTexts::sketch_text))]
+// Adds the sketch, its shape, and what a packet adds to it.
+#[tactic(auto, unfolding(octo_text::specs::Lines::sketch_words, hash_rows::specs::OptionTexts::sketch_text))]
+fn put_sketch(line: &mut Line, shape: &Shape, amount: Amount)
+    requires { length line.old + 200 ≤ 1024 }
+    ensures text { line.new ≡ line.old ++ sketch_words Sketch.CountMin shape.now amount }
+    ensures room { length line.new ≤ length line.old + 200 }
+{
+    line.text(b"sketch ");
+    line.text(b"count-min");
+    line.named(b" rows ", u64::from(shape.rows));
+    line.named(b" columns ", u64::from(shape.columns));
+    line.text(b" amount ");
+    line.text(amount_word(amount));
+}
+
+#[tactic(auto, unfolding(crate::specs::StackText::sketch_line))]
 pub(crate) fn write_sketch<T: Sink>(
     out: &mut T,
     shape: &Shape,
@@ -61,12 +77,7 @@ pub(crate) fn write_sketch<T: Sink>(
     ensures cause { HasCause (T.faults out.old) (T.faults out.new) result }
 {
     let mut line = Line::new();
-    line.text(b"sketch ");
-    line.text(b"count-min");
-    line.named(b" rows ", u64::from(shape.rows));
-    line.named(b" columns ", u64::from(shape.columns));
-    line.text(b" amount ");
-    line.text(amount_word(amount));
+    put_sketch(&mut line, shape, amount);
     line.send(out)
 }
 

@@ -43,7 +43,7 @@ fn write_capture<T: Sink>(out: &mut T, report: &PrefixReport) -> Result<(), Fail
     write_count(out, b"keyed", report.keyed)?;
     write_count(out, b"other", report.other)?;
     write_skipped(out, &report.skipped)?;
-    write_count(out, b"cut", u64::from(report.cut))?;
+    write_count(out, b"cut", report.cut as u64)?;
     write_count(out, b"total", report.total)
 }
 
