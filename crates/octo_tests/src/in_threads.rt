@@ -2,7 +2,11 @@
 
 use crate::runs::{SMOOTH, run, run_cases};
 use flow_base::Status;
+use std::alloc::Global;
+use std::process::Abort;
+use std::sync::Wait;
 use std::test::Fail;
+use std::thread::Threads;
 
 const UNREFUSED: &str = "== a lane that is never full refuses nothing
 run --sketch count-sketch --rows 1 --columns 1 --workers 1 --threshold 1 --least 5 --mode threads --journal
@@ -57,13 +61,17 @@ fn no_schedule_changes_these_journals(rt: HostRuntime) -> Result<(), Fail> {
 }
 
 // Twenty runs in the mode have the report of a run in rounds.
-fn have_one_report(rt: &HostRuntime, mode: &str) -> Result<(), Fail> {
+fn have_one_report<R: Threads + Wait + Sync + Abort>(
+    rt: &R,
+    alloc: Global,
+    mode: &str,
+) -> Result<(), Fail> {
     let line = "load --records 65536 --start 7 --workers 4 --readers 2 --asks 100";
-    let first = run(rt, rt.alloc(), line, "", SMOOTH)?;
+    let first = run(rt, alloc, line, "", SMOOTH)?;
     assert_eq!(rt; first.status, Status::Done);
-    let words = format!(in rt.alloc(); "{line} --mode {mode}")?;
+    let words = format!(in alloc; "{line} --mode {mode}")?;
     for _ in 0..20 {
-        let other = run(rt, rt.alloc(), words.as_str(), "", SMOOTH)?;
+        let other = run(rt, alloc, words.as_str(), "", SMOOTH)?;
         assert!(rt; other.out.held() == first.out.held(), "{mode}");
     }
     Ok(())
@@ -71,10 +79,10 @@ fn have_one_report(rt: &HostRuntime, mode: &str) -> Result<(), Fail> {
 
 #[test]
 fn runs_in_rounds_have_one_report(rt: HostRuntime) -> Result<(), Fail> {
-    have_one_report(&rt, "rounds")
+    have_one_report(&rt, rt.alloc(), "rounds")
 }
 
 #[test]
 fn runs_in_threads_have_the_same_report(rt: HostRuntime) -> Result<(), Fail> {
-    have_one_report(&rt, "threads")
+    have_one_report(&rt, rt.alloc(), "threads")
 }
