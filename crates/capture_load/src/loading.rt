@@ -7,7 +7,7 @@ ghost use Rattle.capture_load.specs.Capture.{ng_magic};
 use crate::LoadStop;
 use crate::format::{Format, MAGIC, ng_reader, pcap_reader};
 use crate::notes::Notes;
-use crate::steps::{step_ng, step_pcap};
+use crate::steps::take_all;
 use std::alloc::Global;
 
 /// A capture while it is read.
@@ -60,8 +60,8 @@ impl Loading {
                 let matched = *matched;
                 self.open(alloc, matched, piece)
             }
-            Format::Pcap(reader) => step_pcap(reader, &mut self.notes, piece),
-            Format::Ng(reader) => step_ng(reader, &mut self.notes, piece),
+            Format::Pcap(reader) => take_all(reader, &mut self.notes, piece),
+            Format::Ng(reader) => take_all(reader, &mut self.notes, piece),
         }
     }
 
@@ -119,7 +119,7 @@ impl Loading {
             Err(_) => Err(LoadStop::NoMemory),
             Ok(reader) => {
                 let mut reader = reader;
-                let result = step_pcap(&mut reader, &mut self.notes, piece);
+                let result = take_all(&mut reader, &mut self.notes, piece);
                 self.format = Format::Pcap(reader);
                 result
             }
