@@ -1,8 +1,9 @@
 -- A block of rounds of all workers, and what is left to do.
-use Rattle.std.proofs.Common.{◌≡◌, ◌<◌, ◌≤◌, ℕ, ℤ, zero, suc, ◌+◌, ◌-◌, ◌*◌, ◌||◌, List, length, length-append, get_or, true, nat_lt, refl, sym, ap, ap₂, ◌∙◌, subst, arith}
+use Rattle.std.proofs.Common.{◌≡◌, ◌<◌, ◌≤◌, ℕ, ℤ, zero, suc, ◌+◌, ◌-◌, ◌*◌, ◌||◌, List, length, length-append, get_or, Some, slice_get, true, nat_lt, refl, sym, ap, ap₂, ◌∙◌, subst, arith}
 use Rattle.std.specs.Prelude.{fold, slice_index_or, sum_by}
 use Rattle.std.specs.List.{flat_map, list_any, range_with_len}
 use Rattle.std.proofs.lemmas.List.Sums.{fold-append}
+use Rattle.std.proofs.lemmas.Option.{get_or_from_slice_get, slice_get_within}
 use Rattle.hash_rows.specs.declared.options.Options.{Options}
 use Rattle.hash_rows.specs.declared.shape.Packet.{Packet}
 use Rattle.hash_rows.specs.declared.shape.Push.{Push}
@@ -27,6 +28,14 @@ use Rattle.octo_engine.proofs.Places.{has_len}
 use Rattle.octo_engine.proofs.Running.{held_is}
 use Rattle.octo_engine.proofs.Stepping.{counted_by}
 use Rattle.octo_engine.proofs.Sums.{by_place, sums_less}
+
+-- a part that stands in the list ran a block
+pub part_ran : {K H : Type 0} (r : Rules) (stands : H → ℤ → ℤ → Type 0) (o : Options) (packets : List Packet) (parts new : List (Part K H)) → length new ≡ length parts
+    → ((w : ℕ) (p : Part K H) → w < length parts → RanBlock r stands o packets (slice_index_or parts w p) (slice_index_or new w p))
+    → (w : ℕ) (q : Part K H) → slice_get new w ≡ Some q → RanBlock r stands o packets (slice_index_or parts w q) q
+part_ran {K} {H} r stands o packets parts new len ran w q at =
+    let below = slice_get_within new w q at in
+    subst (λ (z : Part K H). RanBlock r stands o packets (slice_index_or parts w q) z) (get_or_from_slice_get new w q q at) (ran w q (omega (arith, below, len)))
 
 -- the state once what a round gives is folded
 pub state_more : (r : Rules) (t : Terms) (o : Options) → Runs r t o → (n : ℕ) (s new : StateView) (messages : List Push) → s ≡ state_after r (layout_in o) (folded_after t o n)

@@ -1,8 +1,9 @@
 -- How a sketch goes on standing for its history.
 use Rattle.std.proofs.Common.{◌≡◌, ◌≢◌, ◌<◌, ◌≤◌, ℕ, zero, suc, ◌+◌, ◌-◌, ◌==◌, ℤ, pos, List, [], ◌∷◌, ◌++◌, length, get_or, Bool, true, false, Option, Some, None, MatchOption, if◌then◌else◌, refl, sym, ap, ◌∙◌, subst, arith}
-use Rattle.std.specs.Prelude.{slice_get, slice_set, replicate, All}
+use Rattle.std.specs.Prelude.{slice_get, slice_set, replicate, All, IsSome}
 use Rattle.std.proofs.lemmas.List.{get_or-set_same, get_or-set_other, get_or-replicate, length-set, length_push, length-replicate}
 use Rattle.std.proofs.lemmas.Option.{get_or_from_slice_get, slice_get-get_or, slice_get_within}
+use Rattle.packet_key.specs.declared.key.FlowKey.{FlowKey}
 use Rattle.hash_rows.specs.declared.shape.Update.{Update}
 use Rattle.hash_rows.specs.declared.shape.Push.{Push}
 use Rattle.hash_rows.specs.Rules.{Rules, AreLaws}
@@ -25,6 +26,11 @@ put_other : {X : Type 0} (xs : List X) (i k : ℕ) (y x : X) → k ≢ i → sli
 put_other xs i k y x ne is =
     let within : k < length xs = omega (arith, slice_get_within (slice_set xs i y) k x is, length-set xs i y) in
     slice_get-get_or xs k x within ∙ ap (λ z. Some z) (sym (get_or-set_other xs i k y x ne) ∙ get_or_from_slice_get (slice_set xs i y) k x x is)
+
+-- the cell that is due
+pub due_cell : (due : Option ℕ) → IsSome due → (cell : ℕ) × (due ≡ Some cell)
+due_cell None some = absurd (cc)
+due_cell (Some cell) some = (cell, refl)
 
 -- nothing was counted
 pub stands_fresh : {H : Type 0} (stands : H → ℤ → ℤ → Type 0) (r : Rules) (p : PrivateView H) (fresh : H) (cells : ℕ) → stands fresh (pos 0) (pos 0)
@@ -194,3 +200,13 @@ unfolding residue
 residue_is stands r p cell U S F was =
     ap (λ (z : ℤ). r.gap z (whole r U (length U) cell)) (told_all r S (length U) cell (numbers_by r p.threshold U S F p.due was.pushes))
     ∙ ap (r.gap (told_of r cell S)) (whole_all r U (length U) cell (omega arith))
+
+-- the message of the cell that is due
+pub sent_at : {H : Type 0} (stands : H → ℤ → ℤ → Type 0) (r : Rules) (new : PrivateView H) (worker packet update : ℕ) (key : FlowKey) (U : List Update) (S : List Push) (F : List ℕ)
+    → (due : Option ℕ) (cell : ℕ) → due ≡ Some cell
+    → StandsFor stands r new U (S ++ record { worker = worker; packet = packet; update = update; key = key; cell = cell; amount = r.gap (told_of r cell S) (whole_of r cell U) } ∷ []) F
+    → MatchOption due (StandsFor stands r new U S F)
+    (λ k. StandsFor stands r new U (S ++ record { worker = worker; packet = packet; update = update; key = key; cell = k; amount = r.gap (told_of r k S) (whole_of r k U) } ∷ []) F)
+sent_at stands r new worker packet update key U S F due cell is stood =
+    subst (λ (o : Option ℕ). MatchOption o (StandsFor stands r new U S F)
+    (λ k. StandsFor stands r new U (S ++ record { worker = worker; packet = packet; update = update; key = key; cell = k; amount = r.gap (told_of r k S) (whole_of r k U) } ∷ []) F)) (sym is) stood

@@ -1,7 +1,8 @@
-ghost use Rattle.std.specs.Prelude.{◌≡◌, ◌<◌, ◌≤◌, ◌+◌, ◌-◌, ℕ, ℤ, [], ◌∷◌, ◌++◌, List, length, true, false, nat_le, nat_lt, Some, None, IsSome, IfOk, MatchOption, option_map, slice_index_or};
+ghost use Rattle.std.specs.Prelude.{◌≡◌, ◌<◌, ◌≤◌, ◌+◌, ◌-◌, ℕ, ℤ, [], ◌∷◌, ◌++◌, List, length, true, false, nat_le, nat_lt, Some, None, IsSome, IfOk, MatchOption, option_map, is_none, count_by, map, slice_index_or};
 ghost use Rattle.packet_key.specs.declared.key.FlowKey.{FlowKey};
 ghost use Rattle.hash_rows.specs.declared.shape.Push.{Push};
 ghost use Rattle.hash_rows.specs.declared.shape.Update.{Update};
+ghost use Rattle.held_cells.specs.Held.{byte_of};
 ghost use Rattle.push_history.specs.Pushes.{is_refused};
 ghost use Rattle.push_history.specs.Residue.{residue};
 ghost use Rattle.push_history.specs.Told.{told_of};
@@ -9,32 +10,31 @@ ghost use Rattle.push_history.specs.Whole.{whole_of};
 
 use flow_base::NoMemory;
 use hash_rows::{Bits, Kind};
-use listed::Listed;
+use held_cells::HeldCells;
 use std::alloc::Global;
 use std::marker::Model;
 
 /// What a worker counted of each cell and told of it.
 #[derive(Drop)]
 pub struct Private<K: Kind> {
-    held: Listed<K::Held>,
+    cells: HeldCells<K>,
     threshold: u64,
     room: u32,
     counted: u32,
-    due: Option<u32>,
     bits: Bits,
 }
 
 impl<K: Kind> Model for Private<K> {
-    ghost use Rattle.std.specs.Prelude.{◌≡◌, ◌<◌, ◌≤◌, length, ℕ, Some};
+    ghost use Rattle.std.specs.Prelude.{◌≡◌, ◌<◌, ◌≤◌, ◌+◌, length, MatchOption};
     ghost use Rattle.push_rule.specs.Stands.{PrivateView, private_code};
 
     ghost Value = { PrivateView K.Held };
 
     ghost coded = { private_code K.Held.code };
 
-    ghost view = { λ p. record { held = p.held.items; threshold = p.threshold; room = p.room; counted = p.counted; due = p.due; bits = p.bits } };
+    ghost view = { λ p. record { held = p.cells.held; threshold = p.threshold; room = p.room; counted = p.counted; due = p.cells.due; bits = p.bits } };
 
-    ghost invariant = { λ p. (length p.bits ≡ p.room) × (p.counted ≤ p.room) × ((cell : ℕ) → p.due ≡ Some cell → (cell < length p.held.items) × (0 < p.counted)) };
+    ghost invariant = { λ p. (length p.bits ≡ p.room) × (p.counted ≤ p.room) × MatchOption p.cells.due (p.room ≤ p.cells.left + p.counted) (λ cell. (cell < length p.cells.held) × (0 < p.counted) × (p.room < p.cells.left + p.counted)) };
 }
 
 impl<K: Kind> Private<K> {
@@ -54,14 +54,13 @@ impl<K: Kind> Private<K> {
         ensures threshold { IfOk result (λ sketch. sketch.threshold ≡ threshold) }
         ensures room { IfOk result (λ sketch. sketch.room ≡ updates) }
     {
-        let held = Listed::filled(alloc, cells, K::fresh())?;
+        let cells = HeldCells::new(alloc, cells, updates)?;
         let bits = Bits::new(alloc, updates)?;
         Ok(Private {
-            held,
+            cells,
             threshold,
             room: updates,
             counted: 0,
-            due: None,
             bits,
         })
     }
@@ -83,14 +82,14 @@ impl<K: Kind> Private<K> {
         ensures room_stays { self.new.room ≡ self.old.room }
         ensures cells { length self.new.held ≡ length self.old.held }
     {
-        let held = K::counted(*self.held.get(cell), value);
-        self.held.set(cell, held);
+        let held = K::counted(self.cells.value(cell), value);
         self.counted += 1;
         let (distance, gap) = K::unsent(held);
         if distance >= self.threshold {
-            self.due = Some(cell);
+            self.cells.put_due(cell, held);
             Some(gap)
         } else {
+            self.cells.set(cell, held);
             None
         }
     }
@@ -107,7 +106,7 @@ impl<K: Kind> Private<K> {
             → StandsFor K.stands K.rules self.now updates messages refused
             → result ≡ nat_le self.now.threshold (K.rules.distance (told_of K.rules cell messages) (K.rules.join (whole_of K.rules cell updates) value)) }
     {
-        let (distance, _) = K::unsent(K::counted(*self.held.get(cell), value));
+        let (distance, _) = K::unsent(K::counted(self.cells.value(cell), value));
         self.threshold <= distance
     }
 
@@ -131,14 +130,8 @@ impl<K: Kind> Private<K> {
         ensures room { self.new.room ≡ self.old.room }
         ensures cells { length self.new.held ≡ length self.old.held }
     {
-        match self.due {
-            Some(cell) => {
-                let held = K::told_all(*self.held.get(cell));
-                self.held.set(cell, held);
-                self.due = None;
-            }
-            None => unreachable!(),
-        }
+        let told = K::told_all(self.cells.due());
+        self.cells.settle(told);
     }
 
     /// The due push was refused.
@@ -153,13 +146,9 @@ impl<K: Kind> Private<K> {
         ensures threshold { self.new.threshold ≡ self.old.threshold }
         ensures room { self.new.room ≡ self.old.room }
     {
-        match self.due {
-            Some(_) => {
-                self.bits.set(self.counted - 1);
-                self.due = None;
-            }
-            None => unreachable!(),
-        }
+        self.bits.set(self.counted - 1);
+        let held = self.cells.due();
+        self.cells.settle(held);
     }
 
     /// What was counted of the cell and not told.
@@ -170,7 +159,7 @@ impl<K: Kind> Private<K> {
             → StandsFor K.stands K.rules self.now updates messages refused
             → result ≡ residue K.rules updates messages (length updates) cell }
     {
-        K::unsent(*self.held.get(cell)).1
+        K::unsent(self.cells.get(cell)).1
     }
 
     /// How far what was told of the cell is from the whole.
@@ -178,7 +167,21 @@ impl<K: Kind> Private<K> {
         requires { cell < length self.now.held }
         ensures { (told whole : ℤ) → StandsAt K.stands self.now.held cell told whole → result ≡ K.rules.distance told whole }
     {
-        K::unsent(*self.held.get(cell)).0
+        K::unsent(self.cells.get(cell)).0
+    }
+
+    /// One byte a cell: what is held of it, where that fits, or -128.
+    pub fn small_bytes(&self) -> &[i8]
+        ensures { result.now ≡ map (λ held. byte_of (K.small_of held)) self.now.held }
+    {
+        self.cells.small_bytes()
+    }
+
+    /// How many cells hold what doesn't fit in one byte.
+    pub fn wide(&self) -> u32
+        ensures { result ≡ count_by (λ held. is_none (K.small_of held)) self.now.held }
+    {
+        self.cells.wide()
     }
 
     /// How many updates were counted.

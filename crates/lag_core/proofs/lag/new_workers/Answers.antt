@@ -1,4 +1,6 @@
-use Rattle.std.proofs.Common.{◌≡◌, ◌∙◌, ◌<◌, ap, length, arith, List, get_or}
+use Rattle.std.proofs.Common.{◌≡◌, ◌∙◌, ◌<◌, ◌≤◌, ap, subst, length, arith, List, get_or}
+use Rattle.std.specs.List.{AllZip}
+use Rattle.std.proofs.lemmas.List.{take_all}
 use Rattle.listed.specs.Listed.{Listed}
 use Rattle.hash_rows.specs.declared.shape.Update.{Update}
 use Rattle.hash_rows.specs.Shapes.{size_of}
@@ -27,3 +29,17 @@ workers-preserved g c =
       zip_grown (λ (row : Listed Update) (lane : Queue). lane ≡ fresh_lane c.args.capacity) rows c.workers.row-index row c.workers.lanes.items c.push_item-in-workers.new.items.items c.in_ok-lane.lane
           below is c.workers.invariant.1 (λ i. record { messages = c.in_ok-lane.ensures.empty i; capacity = c.in_ok-lane.ensures.capacity i }) c.in_ok-push_item-2.ensures,
     )
+
+pub returns-clause-sketches : goal.returns-clause-sketches
+returns-clause-sketches g c =
+    let rows = c.args.updates.now.items in
+    let end : length rows ≤ c.workers.row-index = omega (arith, c.workers-test.false, ap (λ (l : List (Listed Update)). length l) c.as_slice-row-items.ensures) in
+    subst (λ (l : List (Listed Update)). AllZip (λ (row : Listed Update) (p : PrivateView g.row.K-Held.Denot). IsFreshSketch g.K.Kind.stands g.K.Kind.rules (size_of c.args.shape.now) c.args.threshold row.items p) l c.workers.sketches.items)
+    (take_all c.workers.row-index rows end) c.workers.invariant.0
+
+pub returns-clause-lanes : goal.returns-clause-lanes
+returns-clause-lanes g c =
+    let rows = c.args.updates.now.items in
+    let end : length rows ≤ c.workers.row-index = omega (arith, c.workers-test.false, ap (λ (l : List (Listed Update)). length l) c.as_slice-row-items.ensures) in
+    subst (λ (l : List (Listed Update)). AllZip (λ (row : Listed Update) (lane : Queue). lane ≡ fresh_lane c.args.capacity) l c.workers.lanes.items)
+    (take_all c.workers.row-index rows end) c.workers.invariant.1

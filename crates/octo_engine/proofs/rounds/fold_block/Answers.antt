@@ -3,6 +3,7 @@ use Rattle.live_state.specs.Fold.{state_after}
 use Rattle.round_law.specs.OwnRounds.{folded_after}
 use Rattle.octo_engine.specs.Looks.{AreLooks, layout_in}
 use Rattle.octo_engine.proofs.Rounding.{state_more}
+use Rattle.octo_engine.specs.Parts.{block}
 use Rattle.octo_engine.proofs.rounds.fold_block.Goals as goal
 
 pub rounds-preserved : goal.rounds-preserved
@@ -14,3 +15,13 @@ rounds-preserved g c = λ t n runs given is are.
       now ∙ ap (λ k. state_after g.K.Kind.rules (layout_in c.args.options.now) (folded_after t c.args.options.now k)) next,
       subst (λ k. AreLooks g.K.Kind.rules t c.args.options.now k c.look_once.new.looks) next looked,
     )
+
+pub returns : goal.returns
+returns g c = record {
+  folded = λ t n runs given is are.
+      let done : c.rounds.round ≡ block = omega (arith, c.rounds-test.false, c.rounds.auto.round-end) in
+      let out = c.rounds.invariant t n runs given is are in (
+        out.0 ∙ ap (λ k. state_after g.K.Kind.rules (layout_in c.args.options.now) (folded_after t c.args.options.now (n + k))) done,
+        subst (λ k. AreLooks g.K.Kind.rules t c.args.options.now (n + k) c.rounds.looks) done out.1,
+      );
+}

@@ -1,7 +1,7 @@
 use Rattle.std.proofs.Common.{◌∙◌, ◌+◌, sym}
 use Rattle.push_history.specs.Journal.{terms_of}
 use Rattle.octo_engine.specs.Parts.{block}
-use Rattle.octo_engine.proofs.Rounding.{parts_more, given_more, work_less, some_round}
+use Rattle.octo_engine.proofs.Rounding.{parts_more, given_more, work_less, some_round, part_ran}
 use Rattle.octo_engine.proofs.rounds.run_while_busy.Goals as goal
 
 pub busy-smaller : goal.busy-smaller
@@ -21,3 +21,11 @@ busy-preserved g c =
     let given = given_more g.K.Kind.rules g.K.Kind.stands t c.args.options.now c.args.packets.now c.requires.terms was.rounds c.busy.parts c.run_workers.new.parts was.workers c.run_workers.ensures.len c.run_workers.ensures.ran in
     let folded = c.in_ok-fold_block.ensures.folded t was.rounds c.requires.terms.runs given was.state_is was.seen in
     record { rounds = was.rounds + block; workers = now; state_is = folded.0; seen = folded.1 }
+
+pub fold_block-requires-clause-ends : goal.fold_block-requires-clause-ends
+fold_block-requires-clause-ends g c κs within = λ w p at.
+    (part_ran g.K.Kind.rules g.K.Kind.stands c.args.options.now c.args.packets.now c.busy.parts c.run_workers.new.parts c.run_workers.ensures.len c.run_workers.ensures.ran w p at).ends
+
+pub fold_block-requires-clause-taken : goal.fold_block-requires-clause-taken
+fold_block-requires-clause-taken g c κs within = λ w p at.
+    (part_ran g.K.Kind.rules g.K.Kind.stands c.args.options.now c.args.packets.now c.busy.parts c.run_workers.new.parts c.run_workers.ensures.len c.run_workers.ensures.ran w p at).sound.fit.taken

@@ -25,3 +25,10 @@ parts-preserved g c =
           rows_more (IsRow g.K.Kind.rules g.K.Kind.stands) all c.parts.rows.items c.set.new.self.items (length new) [] c.in-Some.part c.refused_of.result (omega (arith, rows, below)) stored out.2 c.refused_of.ensures
           (λ v q after inside. was.3 v q (omega (arith, after, next)) inside) w p (omega (arith, from, place)) to,
     )
+
+pub returns : goal.returns
+returns g c =
+    let was = c.parts.invariant in
+    let place = was.1 in
+    let none : length c.parts.parts.items ≡ 0 = search (c.in_default.ensures, c.pop.ensures, c.in_default.not-Some, arith) in
+    record { rows_len = was.2; each = λ w p lt. was.3 w p (omega (arith, place, none)) lt }

@@ -1,5 +1,6 @@
-use Rattle.std.proofs.Common.{rules}
+use Rattle.std.proofs.Common.{◌∙◌, ap}
 use Rattle.push_history.specs.Journal.{terms_of}
+use Rattle.heavy_keys.specs.Noted.{HeavyTable}
 use Rattle.octo_engine.proofs.Beginning.{are_terms, rules_are}
 use Rattle.octo_engine.proofs.Outcomes.{outcome_of, wanted_is}
 use Rattle.octo_engine.proofs.settle.settle.Goals as goal
@@ -15,5 +16,8 @@ returns-clause-outcome g c =
       rounds = c.requires.end.0;
       outcome = outcome_of g.K.Kind.stands g.K.Kind.rules (terms_of packets o) o packets terms c.requires.end.0 c.args.parts.items c.args.state c.args.looks.now.items c.in_ok-answers.answers.items
           c.in_ok-refused.refused.items c.in_ok-pushes.pushes.items c.in_ok-live.live.items c.missed-missed.result c.requires.end.1 c.requires.end.2 (wanted_is o) c.in_ok-answers.ensures c.in_ok-refused.ensures
-          (search rules) (search rules) (search rules);
+          (c.in_ok-pushes.ensures ∙ c.fronts.ensures) (c.in_ok-live.ensures ∙ ap (λ (h : HeavyTable). h.keys) c.heavy.ensures) (c.missed-missed.ensures ∙ ap (λ (h : HeavyTable). h.missed) c.heavy-2.ensures);
     }
+
+pub answers_from-requires-clause-looks : goal.answers_from-requires-clause-looks
+answers_from-requires-clause-looks g c = λ some. c.requires.end.2.len ∙ wanted_is c.args.options.now some

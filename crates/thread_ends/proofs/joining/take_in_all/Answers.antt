@@ -28,3 +28,15 @@ loop-lane-preserved g c =
       passes_room = e.room.0 ∙ h.passes_room;
       sketches_room = e.room.1 ∙ h.sketches_room;
     }
+
+pub returns-clause-sketches : goal.returns-clause-sketches
+returns-clause-sketches g c =
+    let lanes = c.args.lanes.now in
+    let end : length lanes ≤ c.loop-lane.lane-index = omega (arith, c.loop-lane-test.false) in
+    joined_sketches lanes c.args.workers.items c.args.outs.items c.loop-lane.lane-index _ _ c.loop-lane.passes.items c.loop-lane.sketches.items c.loop-lane.invariant.joined end
+
+pub returns-clause-passes : goal.returns-clause-passes
+returns-clause-passes g c =
+    let lanes = c.args.lanes.now in
+    let end : length lanes ≤ c.loop-lane.lane-index = omega (arith, c.loop-lane-test.false) in
+    joined_all lanes c.args.workers.items c.args.outs.items c.loop-lane.lane-index _ _ c.loop-lane.passes.items c.loop-lane.sketches.items c.loop-lane.invariant.joined end

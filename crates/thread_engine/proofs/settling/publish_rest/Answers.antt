@@ -1,6 +1,6 @@
 use Rattle.std.proofs.Common.{List, sym, subst}
 use Rattle.hash_rows.specs.declared.shape.Push.{Push}
-use Rattle.aggregate.specs.Takens.{AreTaken}
+use Rattle.aggregate.specs.Takens.{AreNamed, AreTaken}
 use Rattle.live_state.specs.declared.layout.Layout.{Layout}
 use Rattle.thread_ends.specs.Ends.{both_sents, kept_in}
 use Rattle.thread_engine.proofs.settling.publish_rest.Goals as goal
@@ -15,3 +15,7 @@ returns-clause-published g c =
     subst (λ (l : Layout). AreTaken r l sents c.publish.new.self.published) (sym c.publish.ensures.pair.1)
     (subst (λ (ms : List Push). AreTaken r w.layout sents ms) (sym c.publish.ensures.published)
     (subst (λ (l : List (List Push)). AreTaken r w.layout l (kept_in w)) c.in_ok-drain_all.ensures.drained all))
+
+pub drain_all-requires-clause-named : goal.drain_all-requires-clause-named
+drain_all-requires-clause-named g c κs within =
+    subst (λ (l : List (List Push)). AreNamed g.K.Kind.rules c.args.writer.now.layout l) (sym c.take_in_all.ensures.passes.sents) c.requires.named

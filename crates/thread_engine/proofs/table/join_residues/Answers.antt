@@ -1,7 +1,7 @@
-use Rattle.std.proofs.Common.{◌∙◌, ◌<◌, sym, ap, subst}
+use Rattle.std.proofs.Common.{◌≡◌, ◌∙◌, ◌<◌, length, sym, ap, subst, arith}
 use Rattle.hash_rows.specs.Shapes.{size_of}
 use Rattle.push_rule.specs.Stands.{PrivateView, StandsFor}
-use Rattle.thread_engine.specs.Residues.{IsFor}
+use Rattle.thread_engine.specs.Residues.{HasJoined, IsFor}
 use Rattle.thread_engine.proofs.Joining.{joined_more}
 use Rattle.thread_engine.proofs.table.join_residues.Goals as goal
 
@@ -24,3 +24,8 @@ loop-sketch-preserved g c =
           joined_more g.K.Kind.rules by w (size_of c.args.table.now.shape) c.args.table.now.cells c.loop-sketch.table.cells c.join_residue.new.table.cells (was.2 by each)
           (λ cell lt. c.join_residue.ensures.joined _ _ _ stood cell (subst (λ s. cell < size_of s) (sym was.0) lt)),
     )
+
+pub returns-clause-joined : goal.returns-clause-joined
+returns-clause-joined g c = λ by each.
+    let all : c.loop-sketch.sketch-index ≡ length c.args.sketches.now = omega (arith, c.loop-sketch-test.false, c.loop-sketch.auto.sketch-index-end) in
+    subst (λ n. HasJoined g.K.Kind.rules by n (size_of c.args.table.now.shape) c.args.table.now.cells c.loop-sketch.table.cells) all (c.loop-sketch.invariant.2 by each)
