@@ -10,7 +10,7 @@ use Rattle.hash_rows.specs.declared.shape.Tallies.{Tallies}
 
 -- the sketch, its shape, and what a packet adds to it
 unfoldable pub sketch_line : Report → List ℕ
-sketch_line r = sketch_words r.sketch r.shape r.amount ++ codes "\n"
+sketch_line r = words_line (sketch_words r.sketch r.shape r.amount)
 
 -- how many records have no key, by what is wrong with them
 unfoldable pub skipped_line : Tallies → List ℕ

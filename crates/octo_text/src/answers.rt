@@ -21,7 +21,8 @@ fn put_numbers(line: &mut Line, numbers: &[u64])
     }
 }
 
-fn put_estimates(line: &mut Line, estimates: &[i64])
+/// Adds the estimates, each behind a space.
+pub fn put_estimates(line: &mut Line, estimates: &[i64])
     requires { length line.old + 21 * length estimates.now ≤ 1024 }
     ensures text { line.new ≡ line.old ++ flat_map spaced_signed estimates.now }
     ensures room { length line.new ≤ length line.old + 21 * length estimates.now }

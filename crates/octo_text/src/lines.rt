@@ -10,8 +10,9 @@ use flow_base::{Failed, Sink};
 use hash_rows::{Amount, Shape, Sketch};
 use packet_key::FlowKey;
 
+/// Writes a line of words, at most 20 bytes of them.
 #[tactic(auto, unfolding(crate::specs::Lines::words_line))]
-pub(crate) fn write_words<T: Sink>(out: &mut T, words: &[u8]) -> Result<(), Failed>
+pub fn write_words<T: Sink>(out: &mut T, words: &[u8]) -> Result<(), Failed>
     requires { length words.now ≤ 20 }
     ensures writes { Writes (T.holds out.old) (T.holds out.new) (words_line words.now) result }
     ensures cause { HasCause (T.faults out.old) (T.faults out.new) result }
@@ -21,8 +22,9 @@ pub(crate) fn write_words<T: Sink>(out: &mut T, words: &[u8]) -> Result<(), Fail
     line.send(out)
 }
 
+/// Writes a line of a name, at most 20 bytes of it, and a number.
 #[tactic(auto, unfolding(crate::specs::Lines::count_line))]
-pub(crate) fn write_count<T: Sink>(out: &mut T, name: &[u8], number: u64) -> Result<(), Failed>
+pub fn write_count<T: Sink>(out: &mut T, name: &[u8], number: u64) -> Result<(), Failed>
     requires { length name.now ≤ 20 }
     ensures writes { Writes (T.holds out.old) (T.holds out.new) (count_line name.now number) result }
     ensures cause { HasCause (T.faults out.old) (T.faults out.new) result }

@@ -1,8 +1,8 @@
 ghost use Rattle.std.specs.Prelude.{◌≡◌, ◌+◌, ◌≤◌, ◌++◌, ℕ, length, codes};
 ghost use Rattle.flow_base.specs.Causes.{HasCause};
 ghost use Rattle.flow_base.specs.Writing.{Writes};
-ghost use Rattle.octo_text.specs.Lines.{words_line, count_line};
-ghost use Rattle.octo_text.specs.ReportText.{sketch_line, skipped_line, row_line, estimate_line, capture_lines, table_lines, flow_lines, distinct_line, estimate_lines, report_text};
+ghost use Rattle.octo_text.specs.Lines.{words_line, count_line, sketch_words};
+ghost use Rattle.octo_text.specs.ReportText.{skipped_line, row_line, estimate_line, capture_lines, table_lines, flow_lines, distinct_line, estimate_lines, report_text};
 ghost use Rattle.std.specs.List.{flat_map, enumerate_from};
 
 use crate::line::Line;
@@ -37,18 +37,25 @@ pub struct Report {
     pub flows: Flows,
 }
 
-#[tactic(auto, unfolding(crate::specs::ReportText::sketch_line))]
-fn write_sketch<T: Sink>(out: &mut T, report: &Report) -> Result<(), Failed>
-    ensures writes { Writes (T.holds out.old) (T.holds out.new) (sketch_line report.now) result }
+/// Writes the line of the sketch, its shape, and what a packet adds to it.
+#[tactic(auto, unfolding(crate::specs::Lines::words_line))]
+pub fn write_sketch<T: Sink>(
+    out: &mut T,
+    sketch: Sketch,
+    shape: &Shape,
+    amount: Amount,
+) -> Result<(), Failed>
+    ensures writes { Writes (T.holds out.old) (T.holds out.new) (words_line (sketch_words sketch shape.now amount)) result }
     ensures cause { HasCause (T.faults out.old) (T.faults out.new) result }
 {
     let mut line = Line::new();
-    put_sketch(&mut line, report.sketch, &report.shape, report.amount);
+    put_sketch(&mut line, sketch, shape, amount);
     line.send(out)
 }
 
+/// Writes the line that tells how many records have no key, by why.
 #[tactic(auto, unfolding(crate::specs::ReportText::skipped_line))]
-fn write_skipped<T: Sink>(out: &mut T, skipped: &Tallies) -> Result<(), Failed>
+pub fn write_skipped<T: Sink>(out: &mut T, skipped: &Tallies) -> Result<(), Failed>
     ensures writes { Writes (T.holds out.old) (T.holds out.new) (skipped_line skipped.now) result }
     ensures cause { HasCause (T.faults out.old) (T.faults out.new) result }
 {
@@ -86,7 +93,8 @@ fn write_estimate<T: Sink>(out: &mut T, name: &[u8], flow: &Flow) -> Result<(), 
     line.send(out)
 }
 
-fn write_estimates<T: Sink>(out: &mut T, name: &[u8], flows: &[Flow]) -> Result<(), Failed>
+/// Writes a line for each flow: a name, at most 20 bytes of it, its key and its estimate.
+pub fn write_estimates<T: Sink>(out: &mut T, name: &[u8], flows: &[Flow]) -> Result<(), Failed>
     requires { length name.now ≤ 20 }
     ensures writes { Writes (T.holds out.old) (T.holds out.new)
         (flat_map (estimate_line name.now) flows.now) result }
@@ -98,7 +106,8 @@ fn write_estimates<T: Sink>(out: &mut T, name: &[u8], flows: &[Flow]) -> Result<
     Ok(())
 }
 
-fn write_rows<T: Sink>(out: &mut T, used: &[u64]) -> Result<(), Failed>
+/// Writes a line for each row of a table, by how many of its cells aren't 0.
+pub fn write_rows<T: Sink>(out: &mut T, used: &[u64]) -> Result<(), Failed>
     ensures writes { Writes (T.holds out.old) (T.holds out.new)
         (flat_map row_line (enumerate_from 0 used.now)) result }
     ensures cause { HasCause (T.faults out.old) (T.faults out.new) result }
@@ -168,7 +177,7 @@ pub fn write_report<T: Sink>(out: &mut T, report: &Report) -> Result<(), Failed>
     ensures cause { HasCause (T.faults out.old) (T.faults out.new) result }
 {
     write_words(out, b"octosketch report 1")?;
-    write_sketch(out, report)?;
+    write_sketch(out, report.sketch, &report.shape, report.amount)?;
     write_capture(out, report)?;
     write_table(out, report)?;
     write_findings(out, report)?;

@@ -1,4 +1,4 @@
-mod Adding
+pub mod Adding
 mod OfAll
 mod OneOrder
 pub mod OneReport

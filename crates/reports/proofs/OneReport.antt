@@ -37,7 +37,7 @@ shared estimate_of least keys xs ys a b q has =
     let whole = b.whole q.key s.0 (subst (λ (z : ℤ). least ≤ℤ z) s.1 s.2) in
     subst (Has ys) (λ i. record { key = q.key; estimate = sym s.1 i }) (has_from ys _ whole)
 
-one_heaviest : (estimate_of : FlowKey → ℤ) (least : ℤ) (keys : List FlowKey) (most m n : ℕ) (xs ys : List Flow) → AreHeaviest estimate_of least keys most m xs
+pub one_heaviest : (estimate_of : FlowKey → ℤ) (least : ℤ) (keys : List FlowKey) (most m n : ℕ) (xs ys : List Flow) → AreHeaviest estimate_of least keys most m xs
     → AreHeaviest estimate_of least keys most n ys → (m ≡ n) × (xs ≡ ys)
 one_heaviest estimate_of least keys most m n xs ys a b =
     let all = one_list IsBefore strict a.all b.all a.all_heavy.sorted b.all_heavy.sorted

@@ -9,4 +9,5 @@ mod totals;
 
 pub use build::report_of;
 pub use laws::one_report;
-pub use one_table::sequential;
+pub use one_table::{add_packet, sequential};
+pub use totals::{total_of, used_of};

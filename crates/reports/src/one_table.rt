@@ -24,8 +24,8 @@ pub fn sequential<K: Kind>(
     Ok(table)
 }
 
-// Joins into each row what the packet adds there. The key's bytes are hashed once.
-fn add_packet<K: Kind>(table: &mut Table<K>, packet: &Packet)
+/// Joins into each row what the packet adds there. The key's bytes are hashed once.
+pub fn add_packet<K: Kind>(table: &mut Table<K>, packet: &Packet)
     ensures { (shape : Shape) (packets : List Packet) → table.old ≡ sequential_table K.rules shape packets
         → table.new ≡ sequential_table K.rules shape (packets ++ packet.now ∷ []) }
 {

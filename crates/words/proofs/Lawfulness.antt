@@ -1,6 +1,6 @@
 -- The options that parts give are lawful.
 use Rattle.std.proofs.Common.{◌≡◌, ◌≤◌, ◌≢◌, ℕ, true, false, not, refl, sym, subst, arith, List, [], ◌∷◌, length, Option, Some, None, codes, true≢false, ◌||◌}
-use Rattle.std.specs.Prelude.{ℤ, pos, ◌≤ℤ◌, AllPairs, is_some}
+use Rattle.std.specs.Prelude.{ℤ, pos, ◌≤ℤ◌, All, AllPairs, is_some}
 use Rattle.std.proofs.lemmas.Int.{ints}
 use Rattle.hash_rows.specs.Lawful.{IsLawful, Suits}
 use Rattle.hash_rows.specs.Shapes.{IsShape}
@@ -9,9 +9,13 @@ use Rattle.hash_rows.specs.declared.options.Sketch.{Sketch}
 use Rattle.hash_rows.specs.declared.options.Sketch.TheVariants.{CountMin, CountSketch, LogLog}
 use Rattle.hash_rows.specs.declared.shape.Shape.{Shape}
 use Rattle.packet_key.specs.declared.key.FlowKey.{FlowKey}
+use Rattle.packet_key.specs.KeyText.{IsKey, text_of}
+use Rattle.prefixes.specs.declared.network.Prefix.{Prefix}
+use Rattle.prefixes.specs.Networks.{AreWatched, IsNetwork}
+use Rattle.prefixes.specs.Texts.{prefix_text}
 use Rattle.words.specs.Grammar.{Part, Text, value_in}
 use Rattle.words.specs.Options.{GivesOptions, GivesShape, most_rows, suits, usual_rows, usual_threshold}
-use Rattle.words.specs.Values.{ReadsInteger, ReadsKeys, ReadsNumber}
+use Rattle.words.specs.Values.{ReadsInteger, ReadsKeys, ReadsList, ReadsNetworks, ReadsNumber}
 
 -- a number that is read is in range
 pub in_range : (low high d : ℕ) (v : Option Text) (n : ℕ) → low ≤ d → d ≤ high → ReadsNumber low high d v n → (low ≤ n) × (n ≤ high)
@@ -32,17 +36,31 @@ threshold_in_range CountMin v n r = in_range 1 1099511627776 16 v n (omega arith
 threshold_in_range CountSketch v n r = in_range 1 1099511627776 16 v n (omega arith) (omega arith) r
 threshold_in_range LogLog v n r = in_range 1 1099511627776 1 v n (omega arith) (omega arith) r
 
-no_pairs : (ks : List FlowKey) → ks ≡ [] → AllPairs (λ a b. a ≢ b) ks
+no_pairs : {X : Type 0} (xs : List X) → xs ≡ [] → AllPairs (λ a b. a ≢ b) xs
 no_pairs [] e = λ i j d lt within. absurd (omega arith)
-no_pairs (k ∷ ks) e = cc
+no_pairs (x ∷ xs) e = cc
 
-few_watched : (v : Option Text) (ks : List FlowKey) → ReadsKeys v ks → length ks ≤ 16
-few_watched None ks r = subst (λ (xs : List FlowKey). length xs ≤ 16) (sym r) (omega arith)
-few_watched (Some t) ks r = r.most
+-- what is watched is at most 16 different values
+module _ {X : Type 0} (HasText : X → Type 0) (text_for : X → Text) where
+  few_watched : (v : Option Text) (xs : List X) → ReadsList HasText text_for v xs → length xs ≤ 16
+  few_watched None xs r = subst (λ (ys : List X). length ys ≤ 16) (sym r) (omega arith)
+  few_watched (Some t) xs r = r.most
 
-watched_differ : (v : Option Text) (ks : List FlowKey) → ReadsKeys v ks → AllPairs (λ a b. a ≢ b) ks
-watched_differ None ks r = no_pairs ks r
-watched_differ (Some t) ks r = r.differ
+  watched_differ : (v : Option Text) (xs : List X) → ReadsList HasText text_for v xs → AllPairs (λ a b. a ≢ b) xs
+  watched_differ None xs r = no_pairs xs r
+  watched_differ (Some t) xs r = r.differ
+
+  have_texts : (v : Option Text) (xs : List X) → ReadsList HasText text_for v xs → All HasText xs
+  have_texts None xs r = subst (All HasText) (sym r) (λ i d within. absurd (omega (arith, within)))
+  have_texts (Some t) xs r = r.have_texts
+
+-- watched networks are networks
+pub are_watched : (v : Option Text) (ps : List Prefix) → ReadsNetworks v ps → AreWatched ps
+are_watched v ps r = record {
+  most = few_watched IsNetwork prefix_text v ps r;
+  are_networks = have_texts IsNetwork prefix_text v ps r;
+  differ = watched_differ IsNetwork prefix_text v ps r;
+}
 
 unwatched : (a v w x keys : Option Text) (ks : List FlowKey) → not (is_some a || is_some v || is_some w || is_some x) ≡ true → (is_some v ≡ false → keys ≡ None)
     → ReadsKeys keys ks → ks ≡ []
@@ -90,8 +108,8 @@ lawful usual keys parts o given g =
       round = round.1;
       readers = readers.1;
       asks = asks.1;
-      watch = few_watched keys o.watch.items g.watch;
-      distinct = watched_differ keys o.watch.items g.watch;
+      watch = few_watched IsKey text_of keys o.watch.items g.watch;
+      distinct = watched_differ IsKey text_of keys o.watch.items g.watch;
       some_heavy = heavy.0;
       heavy = heavy.1;
       some_least = least.0;

@@ -16,10 +16,17 @@ use Rattle.hash_rows.specs.declared.options.Sketch.{Sketch}
 use Rattle.hash_rows.specs.declared.options.Sketch.TheVariants.{CountMin, CountSketch, LogLog}
 use Rattle.hash_rows.specs.declared.shape.Shape.{Shape}
 use Rattle.packet_key.specs.declared.key.FlowKey.{FlowKey}
+use Rattle.packet_key.specs.KeyText.{IsKey, text_of}
+use Rattle.packet_key.proofs.Bytes.{Lacks-text_of}
+use Rattle.packet_key.proofs.OneText.{one_key}
+use Rattle.prefixes.specs.declared.network.Prefix.{Prefix}
+use Rattle.prefixes.specs.Networks.{IsNetwork}
+use Rattle.prefixes.specs.Texts.{prefix_text}
+use Rattle.prefixes.proofs.Texts.{Lacks-prefix_text, one_network}
 use Rattle.words.specs.Grammar.{Part, Text, value_in}
 use Rattle.words.specs.Options.{GivesOptions, GivesShape, most_rows, usual_rows, usual_threshold}
-use Rattle.words.specs.Values.{NeedsNumber, ReadsChoice, ReadsInteger, ReadsKeys, ReadsNumber}
-use Rattle.words.proofs.KeyLists.{same_list}
+use Rattle.words.specs.Values.{NeedsNumber, ReadsChoice, ReadsInteger, ReadsKeys, ReadsNetworks, ReadsNumber}
+use Rattle.words.proofs.WatchedLists.{same_list}
 
 -- a value gives at most one number
 pub same_number : (low high d : ℕ) (v : Option Text) (m n : ℕ) → high < 2 ^ 64 → ReadsNumber low high d v m → ReadsNumber low high d v n → m ≡ n
@@ -91,9 +98,12 @@ same_shape parts k s t g h =
     few CountSketch = omega arith
     few LogLog = omega arith
 
-same_watch : (v : Option Text) (ks ls : List FlowKey) → ReadsKeys v ks → ReadsKeys v ls → ks ≡ ls
-same_watch None ks ls p q = p ∙ sym q
-same_watch (Some list) ks ls p q = same_list list ks ls p q
+same_keys : (v : Option Text) (ks ls : List FlowKey) → ReadsKeys v ks → ReadsKeys v ls → ks ≡ ls
+same_keys = same_list IsKey text_of (Lacks-text_of 44 refl) one_key
+
+-- a value lists the texts of at most one list of networks
+pub same_networks : (v : Option Text) (ps qs : List Prefix) → ReadsNetworks v ps → ReadsNetworks v qs → ps ≡ qs
+same_networks = same_list IsNetwork prefix_text (Lacks-prefix_text 44 refl) one_network
 
 -- parts give at most one set of options
 pub same_options : (usual : Sketch) (keys : Option Text) (parts : List Part) (o d : Options) → GivesOptions usual keys parts o → GivesOptions usual keys parts d → o ≡ d
@@ -113,7 +123,7 @@ same_options usual keys parts o d g h =
     let mode = same_choice mode_text Rounds _ o.mode d.mode same_mode g.mode h.mode in
     let readers = same_number 0 4 0 _ o.readers d.readers (omega arith) g.readers h.readers in
     let asks = same_number 0 1024 0 _ o.asks d.asks (omega arith) g.asks h.asks in
-    let items = same_watch _ o.watch.items d.watch.items g.watch h.watch in
+    let items = same_keys _ o.watch.items d.watch.items g.watch h.watch in
     let room = g.room ∙ sym h.room in
     let heavy = same_number 1 1024 64 _ o.heavy d.heavy (omega arith) g.heavy h.heavy in
     let least = same_integer 1 1099511627776 1024 _ o.least d.least (omega arith) g.least h.least in

@@ -4,7 +4,7 @@ use Rattle.std.specs.List.{list_any}
 use Rattle.std.specs.Str.{bytes_eq}
 use Rattle.words.specs.Grammar.{Name, Text}
 use Rattle.words.specs.declared.names.Verb.{Verb}
-use Rattle.words.specs.declared.names.Verb.TheVariants.{Run, Load}
+use Rattle.words.specs.declared.names.Verb.TheVariants.{Run, Load, Prefix, Epochs}
 
 abbrev pub an_option : Text → Name
 an_option text = record { text = text; has_value = true }
@@ -16,7 +16,7 @@ a_flag text = record { text = text; has_value = false }
 abbrev pub is_flag : Text → Bool
 is_flag text = list_any (λ flag. bytes_eq flag text) (codes "journal" ∷ [])
 
--- the options that every command takes
+-- the options that every command with options takes
 abbrev pub shared_options : List Name
 shared_options = map an_option (codes "rows"
     ∷ codes "columns"
@@ -36,11 +36,15 @@ shared_options = map an_option (codes "rows"
 abbrev pub own_options : Verb → List Name
 own_options Run = map an_option (codes "sketch" ∷ codes "mode" ∷ codes "watch" ∷ codes "readers" ∷ codes "asks" ∷ [])
 own_options Load = map an_option (codes "sketch" ∷ codes "mode" ∷ codes "watch" ∷ codes "readers" ∷ codes "asks" ∷ codes "records" ∷ codes "start" ∷ [])
+own_options Prefix = map an_option (codes "watch" ∷ codes "readers" ∷ codes "asks" ∷ [])
+own_options Epochs = map an_option (codes "mode" ∷ codes "packets" ∷ codes "change" ∷ [])
 
 -- its flags
 abbrev pub own_flags : Verb → List Name
 own_flags Run = map a_flag (codes "journal" ∷ [])
 own_flags Load = map a_flag (codes "journal" ∷ [])
+own_flags Prefix = []
+own_flags Epochs = []
 
 abbrev pub names_of : Verb → List Name
 names_of verb = (shared_options ++ own_options verb) ++ own_flags verb

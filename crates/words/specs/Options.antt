@@ -1,6 +1,9 @@
 -- The commands that words give.
-use Rattle.std.specs.Prelude.{◌≡◌, ◌∷◌, ◌||◌, ℕ, Bool, true, not, List, Option, is_some, codes}
-use Rattle.hash_rows.specs.Lawful.{IsRegisters}
+use Rattle.std.specs.Prelude.{◌≡◌, ◌≤◌, ◌∷◌, ◌||◌, ℕ, Bool, true, not, List, [], Option, None, is_some, codes}
+use Rattle.hash_rows.specs.Lawful.{IsLawful, IsRegisters}
+use Rattle.listed.specs.Listed.{Listed}
+use Rattle.prefixes.specs.declared.network.Prefix.{Prefix as Network}
+use Rattle.prefixes.specs.Networks.{AreWatched}
 use Rattle.hash_rows.specs.OptionTexts.{amount_text, full_text, mode_text, share_text, sketch_text}
 use Rattle.hash_rows.specs.declared.options.Amount.TheVariants.{Packets}
 use Rattle.hash_rows.specs.declared.options.Full.TheVariants.{Leave}
@@ -8,14 +11,14 @@ use Rattle.hash_rows.specs.declared.options.Mode.TheVariants.{Rounds}
 use Rattle.hash_rows.specs.declared.options.Options.{Options}
 use Rattle.hash_rows.specs.declared.options.Share.TheVariants.{Turn}
 use Rattle.hash_rows.specs.declared.options.Sketch.{Sketch}
-use Rattle.hash_rows.specs.declared.options.Sketch.TheVariants.{CountMin, LogLog}
+use Rattle.hash_rows.specs.declared.options.Sketch.TheVariants.{CountMin, CountSketch, LogLog}
 use Rattle.hash_rows.specs.declared.shape.Shape.{Shape}
 use Rattle.words.specs.Grammar.{IsLine, Part, Text, is_in, value_in}
 use Rattle.words.specs.Names.{names_of}
-use Rattle.words.specs.declared.names.Verb.TheVariants.{Run as RunVerb, Load as LoadVerb}
-use Rattle.words.specs.Values.{NeedsNumber, ReadsChoice, ReadsInteger, ReadsKeys, ReadsNumber}
+use Rattle.words.specs.declared.names.Verb.TheVariants.{Run as RunVerb, Load as LoadVerb, Prefix as PrefixVerb, Epochs as EpochsVerb}
+use Rattle.words.specs.Values.{NeedsNumber, ReadsChoice, ReadsInteger, ReadsKeys, ReadsNetworks, ReadsNumber}
 use Rattle.words.specs.declared.command.Command.{Command}
-use Rattle.words.specs.declared.command.Command.TheVariants.{Run, Load}
+use Rattle.words.specs.declared.command.Command.TheVariants.{Run, Load, Prefix, Epochs, Audit}
 
 -- the greatest number of rows, and the numbers where none is given
 abbrev pub most_rows : Sketch → ℕ
@@ -84,12 +87,43 @@ GivesLoad rest records start o = (parts : List Part) × IsLine (names_of LoadVer
     × NeedsNumber 0 1048576 (value_in (codes "records") parts) records
     × NeedsNumber 0 4294967295 (value_in (codes "start") parts) start
 
+-- the words behind `prefix` give the options, with Count-Min, in rounds and without keys, and the watched networks, with room for
+-- the most that can be watched
+abbrev pub GivesPrefix : List Text → Options → Listed Network → Type 0
+GivesPrefix rest o watch = (parts : List Part) × IsLine (names_of PrefixVerb) parts rest × GivesOptions CountMin None parts o
+    × ReadsNetworks (value_in (codes "watch") parts) watch.items × (watch.room ≡ 16)
+
+-- the words behind `epochs` give the packets of an epoch, the least change, and the options, with Count Sketch and without keys
+abbrev pub GivesEpochs : List Text → ℕ → ℕ → Options → Type 0
+GivesEpochs rest packets change o = (parts : List Part) × IsLine (names_of EpochsVerb) parts rest × GivesOptions CountSketch None parts o
+    × NeedsNumber 256 16777216 (value_in (codes "packets") parts) packets
+    × ReadsNumber 1 1099511627776 1024 (value_in (codes "change") parts) change
+
 -- the grammar: the words give the command
 abbrev pub Gives : List Text → Command → Type 0
 Gives words (Run o) = (rest : List Text) × (words ≡ codes "run" ∷ rest) × GivesRun rest o
 Gives words (Load records start o) = (rest : List Text) × (words ≡ codes "load" ∷ rest) × GivesLoad rest records start o
+Gives words (Prefix o watch) = (rest : List Text) × (words ≡ codes "prefix" ∷ rest) × GivesPrefix rest o watch
+Gives words (Epochs packets change o) = (rest : List Text) × (words ≡ codes "epochs" ∷ rest) × GivesEpochs rest packets change o
+Gives words Audit = words ≡ codes "audit" ∷ []
 
--- the options of a command
-abbrev pub options_in : Command → Options
-options_in (Run o) = o
-options_in (Load records start o) = o
+-- a Count Sketch, with nothing to watch and no one to ask, and the numbers in their ranges
+pub record AreEpochs (size least : ℕ) (o : Options) : Type 0 where
+  pub lawful : IsLawful o
+  pub sketch : o.sketch ≡ CountSketch
+  pub watch : o.watch.items ≡ []
+  pub readers : o.readers ≡ 0
+  pub asks : o.asks ≡ 0
+  pub some_packets : 256 ≤ size
+  pub packets : size ≤ 16777216
+  pub some_change : 1 ≤ least
+  pub change : least ≤ 1099511627776
+
+-- the options are lawful, no more records are generated than may be, networks are counted by a Count-Min in rounds, and epochs by a
+-- Count Sketch
+abbrev pub IsLawfulCommand : Command → Type 0
+IsLawfulCommand (Run o) = IsLawful o
+IsLawfulCommand (Load records start o) = IsLawful o × (records ≤ 1048576)
+IsLawfulCommand (Prefix o watch) = IsLawful o × (o.sketch ≡ CountMin) × (o.mode ≡ Rounds) × AreWatched watch.items
+IsLawfulCommand (Epochs packets change o) = AreEpochs packets change o
+IsLawfulCommand Audit = Unit {0}

@@ -3,6 +3,9 @@ use Rattle.std.specs.Prelude.{◌≡◌, ◌≢◌, ◌≤◌, ℕ, ℤ, pos, Li
 use Rattle.std.specs.List.{join_with_byte}
 use Rattle.packet_key.specs.declared.key.FlowKey.{FlowKey}
 use Rattle.packet_key.specs.KeyText.{IsKey, text_of}
+use Rattle.prefixes.specs.declared.network.Prefix.{Prefix}
+use Rattle.prefixes.specs.Networks.{IsNetwork}
+use Rattle.prefixes.specs.Texts.{prefix_text}
 use Rattle.words.specs.Grammar.{Text}
 
 -- the answer is a value that has the property, and `None` only where no value has it
@@ -33,15 +36,23 @@ abbrev pub ReadsChoice : {C : Type 0} → (C → Text) → C → Option Text →
 ReadsChoice text_for otherwise None c = c ≡ otherwise
 ReadsChoice text_for otherwise (Some text) c = text ≡ text_for c
 
--- the text is the texts of 1 to 16 different keys, joined by commas
-pub record JoinsKeys (text : Text) (keys : List FlowKey) : Type 0 where
-  pub joined : text ≡ join_with_byte 44 (map text_of keys)
-  pub some : 1 ≤ length keys
-  pub most : length keys ≤ 16
-  pub are_keys : All IsKey keys
-  pub differ : AllPairs (λ a b. a ≢ b) keys
+-- the text is the texts of 1 to 16 different things, joined by commas
+pub record Joins {X : Type 0} (HasText : X → Type 0) (text_for : X → Text) (text : Text) (items : List X) : Type 0 where
+  pub joined : text ≡ join_with_byte 44 (map text_for items)
+  pub some : 1 ≤ length items
+  pub most : length items ≤ 16
+  pub have_texts : All HasText items
+  pub differ : AllPairs (λ a b. a ≢ b) items
+
+-- the list of a name that may be missing
+abbrev pub ReadsList : {X : Type 0} → (X → Type 0) → (X → Text) → Option Text → List X → Type 0
+ReadsList HasText text_for None items = items ≡ []
+ReadsList HasText text_for (Some text) items = Joins HasText text_for text items
 
 -- the keys of a name that may be missing
 abbrev pub ReadsKeys : Option Text → List FlowKey → Type 0
-ReadsKeys None keys = keys ≡ []
-ReadsKeys (Some text) keys = JoinsKeys text keys
+ReadsKeys text keys = ReadsList IsKey text_of text keys
+
+-- the networks of a name that may be missing
+abbrev pub ReadsNetworks : Option Text → List Prefix → Type 0
+ReadsNetworks text networks = ReadsList IsNetwork prefix_text text networks

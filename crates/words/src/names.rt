@@ -2,11 +2,13 @@ ghost use Rattle.std.specs.Prelude.{◌≡◌, map};
 ghost use Rattle.words.specs.Names.{own_flags, own_options, shared_options};
 ghost use Rattle.words.specs.Rules.{flag_name, option_name};
 
-/// The commands whose words are options and flags.
+/// The commands that have options and flags.
 #[derive(Clone, Copy)]
 pub(crate) enum Verb {
     Run,
     Load,
+    Prefix,
+    Epochs,
 }
 
 static SHARED: [&str; 12] = [
@@ -30,9 +32,13 @@ static LOAD: [&str; 7] = [
     "sketch", "mode", "watch", "readers", "asks", "records", "start",
 ];
 
+static PREFIX: [&str; 3] = ["watch", "readers", "asks"];
+
+static EPOCHS: [&str; 3] = ["mode", "packets", "change"];
+
 static JOURNAL: [&str; 1] = ["journal"];
 
-/// The options that every command takes.
+/// The options that all of them take.
 pub(crate) fn shared_options() -> &'static [&'static str]
     ensures { map option_name result.now ≡ shared_options }
 {
@@ -46,6 +52,8 @@ pub(crate) fn own_options(verb: Verb) -> &'static [&'static str]
     match verb {
         Verb::Run => RUN.as_slice(),
         Verb::Load => LOAD.as_slice(),
+        Verb::Prefix => PREFIX.as_slice(),
+        Verb::Epochs => EPOCHS.as_slice(),
     }
 }
 
@@ -55,5 +63,6 @@ pub(crate) fn own_flags(verb: Verb) -> &'static [&'static str]
 {
     match verb {
         Verb::Run | Verb::Load => JOURNAL.as_slice(),
+        Verb::Prefix | Verb::Epochs => &[],
     }
 }

@@ -55,10 +55,10 @@ pub(crate) fn small_or(text: Option<&str>, low: u32, high: u32, otherwise: u32) 
 }
 
 /// The number of an option that has to stand.
-pub(crate) fn number_of(text: Option<&str>, high: u32) -> Option<u32>
-    ensures { Finds (NeedsNumber 0 high (option_copied text.entry)) result }
+pub(crate) fn number_of(text: Option<&str>, low: u32, high: u32) -> Option<u32>
+    ensures { Finds (NeedsNumber low high (option_copied text.entry)) result }
 {
-    let n = number_in(text?, 0, u64::from(high))?;
+    let n = number_in(text?, u64::from(low), u64::from(high))?;
     Some(n as u32)
 }
 

@@ -1,57 +1,52 @@
-ghost use Rattle.std.specs.Prelude.{◌≡◌, List, IfOk, IfErr, ◌≢◌, All, MatchBool, Contains, [], true, false};
+ghost use Rattle.std.specs.Prelude.{◌≡◌, List, IfOk, IfErr, [], true, false};
 ghost use Rattle.std.specs.Option.{option_copied};
-ghost use Rattle.packet_key.specs.declared.key.FlowKey.{FlowKey};
-ghost use Rattle.words.specs.Values.{JoinsKeys, ReadsKeys};
+ghost use Rattle.words.specs.Values.{Joins, ReadsList};
 
 use crate::WordStop;
-use hash_rows::Keys;
+use crate::watched::Watched;
 use listed::Listed;
-use packet_key::{FlowKey, parse_key};
 use std::alloc::Global;
 
 const MOST_WATCHED: u32 = 16;
 
-// Whether the key is among those.
-fn is_among(keys: &[FlowKey], key: &FlowKey) -> bool
-    ensures { MatchBool result (Contains keys.now key.now) (All (λ k. k ≢ key.now) keys.now) }
-{
-    keys.contains(key)
-}
-
-// Adds the keys of the list to the empty list, and says whether the grammar gives them.
-fn add_keys(keys: &mut Keys, list: &str) -> bool
-    requires empty { keys.old.items ≡ [] }
-    requires room { keys.old.room ≡ 16 }
-    ensures yes { result ≡ true → JoinsKeys list.now keys.new.items }
-    ensures no { result ≡ false → (ks : List FlowKey) → JoinsKeys list.now ks → ⊥ }
-    ensures room { keys.new.room ≡ 16 }
+// Adds the values of the list to the empty list, and says whether the grammar gives them.
+fn add_watched<T: Watched>(values: &mut Listed<T>, list: &str) -> bool
+    requires empty { values.old.items ≡ [] }
+    requires room { values.old.room ≡ 16 }
+    ensures yes { result ≡ true → Joins T.has_text T.text_for list.now values.new.items }
+    ensures no { result ≡ false → (others : List T) → Joins T.has_text T.text_for list.now others → ⊥ }
+    ensures room { values.new.room ≡ 16 }
 {
     for text in list.split(',') {
-        let Some(key) = parse_key(text) else {
+        let Some(value) = T::parse(text) else {
             return false;
         };
-        if keys.len() == MOST_WATCHED || is_among(keys.as_slice(), &key) {
+        if values.len() == MOST_WATCHED || value.is_among(values.as_slice()) {
             return false;
         }
-        keys.push(key);
+        values.push(value);
     }
     true
 }
 
-/// The watched keys of a list of key texts that may be missing.
-pub(crate) fn keys_or(alloc: Global, list: Option<&str>) -> Result<Keys, WordStop>
-    ensures ok { IfOk result (λ keys. ReadsKeys (option_copied list.entry) keys.items) }
-    ensures room { IfOk result (λ keys. keys.room ≡ 16) }
-    ensures usage { IfErr result (λ e. e ≡ WordStop.Usage → (ks : List FlowKey) → ReadsKeys (option_copied list.entry) ks → ⊥) }
+/// The watched values of a list of texts that may be missing.
+pub(crate) fn watched_or<T: Watched>(
+    alloc: Global,
+    list: Option<&str>,
+) -> Result<Listed<T>, WordStop>
+    ensures ok { IfOk result (λ values. ReadsList T.has_text T.text_for (option_copied list.entry) values.items) }
+    ensures room { IfOk result (λ values. values.room ≡ 16) }
+    ensures usage { IfErr result (λ e. e ≡ WordStop.Usage
+        → (others : List T) → ReadsList T.has_text T.text_for (option_copied list.entry) others → ⊥) }
 {
-    let Ok(mut keys) = Listed::new(alloc, MOST_WATCHED) else {
+    let Ok(mut values) = Listed::new(alloc, MOST_WATCHED) else {
         return Err(WordStop::NoMemory);
     };
     let Some(list) = list else {
-        return Ok(keys);
+        return Ok(values);
     };
-    if !add_keys(&mut keys, list) {
+    if !add_watched(&mut values, list) {
         return Err(WordStop::Usage);
     }
-    Ok(keys)
+    Ok(values)
 }
