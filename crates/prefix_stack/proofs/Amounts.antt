@@ -1,5 +1,5 @@
 -- What the packets of networks amount to.
-use Rattle.std.proofs.Common.{◌≡◌, ◌∙◌, ◌<◌, ◌≤◌, ◌+◌, ◌-◌, ◌*◌, ◌%◌, ◌^◌, ◌==◌, ◌≤ℤ◌, ℕ, ℤ, pos, zero, suc, Bool, true, false, cond, List, [], ◌∷◌, ◌++◌, length, map, filter, take, get_or, refl, sym, ap, subst, inl, inr, arith, All}
+use Rattle.std.proofs.Common.{◌≡◌, ◌∙◌, ◌<◌, ◌≤◌, ◌+◌, ◌-◌, ◌%◌, ◌^◌, ◌==◌, ◌≤ℤ◌, ℕ, pos, Bool, true, false, List, [], ◌∷◌, ◌++◌, length, take, get_or, refl, sym, ap, subst, arith}
 use Rattle.std.specs.Prelude.{sum_by, if◌then◌else◌}
 use Rattle.std.specs.List.{flat_map}
 use Rattle.std.proofs.lemmas.Bool.{eq-eqb, eqb-true}
@@ -18,7 +18,7 @@ use Rattle.hash_rows.specs.Sequential.{sequential_table}
 use Rattle.hash_rows.specs.Shapes.{IsShape}
 use Rattle.count_min.proofs.NeverBelow.{never_below}
 use Rattle.prefixes.specs.declared.network.Prefix.{Prefix}
-use Rattle.prefixes.specs.Networks.{IsLength, IsNetwork, addresses_in, network_of, prefix_key}
+use Rattle.prefixes.specs.Networks.{IsLength, addresses_in, network_of, prefix_key}
 use Rattle.prefix_stack.specs.Descent.{hit_by}
 use Rattle.prefix_stack.proofs.Candidates.{parent_of, sizes_at}
 use Rattle.prefix_stack.specs.Levels.{is_from, level_packets, level_table, network_amount, network_packets, packet_from}

@@ -1,7 +1,6 @@
 -- The children of networks are networks, and each network is a child of the one that is 8 bits shorter.
-use Rattle.std.proofs.Common.{◌≡◌, ◌∙◌, ◌<◌, ◌≤◌, ◌+◌, ◌-◌, ◌*◌, ◌/◌, ◌%◌, ◌^◌, ℕ, ℤ, zero, suc, Bool, true, false, cond, List, [], ◌∷◌, ◌++◌, length, map, filter, take, get_or, refl, sym, ap, ap₂, subst, inl, inr, arith, All}
-use Rattle.std.specs.List.{Contains, flat_map, range_with_len}
-use Rattle.std.proofs.lemmas.List.{length-map}
+use Rattle.std.proofs.Common.{◌≡◌, ◌∙◌, ◌<◌, ◌+◌, ◌-◌, ◌*◌, ◌/◌, ◌%◌, ◌^◌, ℕ, length, refl, sym, ap, subst, inl, inr, arith, All}
+use Rattle.std.specs.List.{Contains}
 use Rattle.std.proofs.lemmas.List.FromFn.{get_or-map-range_with_len, length-map-range_with_len}
 use Rattle.prefixes.specs.declared.network.Prefix.{Prefix}
 use Rattle.prefixes.specs.Networks.{IsLength, IsNetwork, addresses_in, network_of}

@@ -1,6 +1,6 @@
 -- The descent, a length at a time, and that it misses no network that reaches the number.
-use Rattle.std.proofs.Common.{◌≡◌, ◌∙◌, ◌<◌, ◌≤◌, ◌+◌, ◌-◌, ◌*◌, ◌%◌, ◌^◌, ◌≤ℤ◌, ℕ, ℤ, pos, zero, suc, Bool, true, false, cond, List, [], ◌∷◌, ◌++◌, length, map, filter, take, drop, get_or, set, refl, sym, ap, subst, inl, inr, arith, All, append_assoc, length-append}
-use Rattle.std.specs.Prelude.{int_le, nat_lt, slice_index_or}
+use Rattle.std.proofs.Common.{◌≡◌, ◌∙◌, ◌<◌, ◌≤◌, ◌+◌, ◌*◌, ◌^◌, ◌≤ℤ◌, ℕ, ℤ, pos, zero, suc, Bool, true, false, List, [], ◌∷◌, ◌++◌, length, map, filter, take, drop, get_or, set, refl, sym, ap, subst, inl, inr, arith, All, append_assoc, length-append}
+use Rattle.std.specs.Prelude.{int_le, slice_index_or}
 use Rattle.std.specs.List.{Contains, flat_map}
 use Rattle.std.proofs.lemmas.Bool.{ltb-false}
 use Rattle.std.proofs.lemmas.Int.{ints}
@@ -13,7 +13,7 @@ use Rattle.hash_rows.specs.declared.shape.Shape.{Shape}
 use Rattle.hash_rows.specs.Shapes.{IsShape}
 use Rattle.hash_rows.specs.Tables.{TableView}
 use Rattle.prefixes.specs.declared.network.Prefix.{Prefix}
-use Rattle.prefixes.specs.Networks.{IsLength, IsNetwork, addresses_in, network_of, prefix_key}
+use Rattle.prefixes.specs.Networks.{IsLength, IsNetwork, addresses_in, network_of}
 use Rattle.prefix_stack.specs.declared.hit.Hit.{Hit}
 use Rattle.prefix_stack.specs.declared.hit.Reached.{Reached}
 use Rattle.prefix_stack.specs.Descent.{IsFound, IsLevelOf, IsParent, Level, MissesNone, candidates_of, children_of, everything, has_more, hit_by, hits_of, level_below, levels_below, levels_of, prefixes_of, qualified_of}

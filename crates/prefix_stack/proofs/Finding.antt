@@ -1,5 +1,5 @@
 -- What is found among one candidate more.
-use Rattle.std.proofs.Common.{◌≡◌, ◌∙◌, ◌<◌, ◌≤◌, ◌+◌, ◌≤ℤ◌, ◌<ℤ◌, All, ℕ, ℤ, Bool, true, false, cond, List, [], ◌∷◌, ◌++◌, length, map, filter, take, get_or, refl, sym, ap, subst, arith, append_assoc, length-append}
+use Rattle.std.proofs.Common.{◌≡◌, ◌∙◌, ◌<◌, ◌≤◌, ◌+◌, ◌≤ℤ◌, ◌<ℤ◌, All, ℕ, ℤ, true, false, cond, List, [], ◌∷◌, ◌++◌, length, map, filter, take, get_or, sym, ap, subst, arith, append_assoc, length-append}
 use Rattle.std.specs.Prelude.{nat_lt, int_le, int_lt}
 use Rattle.std.specs.List.{flat_map, range_with_len}
 use Rattle.std.proofs.lemmas.Bool.{lt-ltb, le-ltb}
@@ -14,7 +14,7 @@ use Rattle.prefixes.specs.declared.network.Prefix.{Prefix}
 use Rattle.prefixes.specs.Networks.{prefix_key}
 use Rattle.prefix_stack.specs.declared.hit.Hit.{Hit}
 use Rattle.prefix_stack.specs.declared.hit.Reached.{Reached}
-use Rattle.prefix_stack.specs.Descent.{IsLevelOf, IsParent, candidates_of, child_of, children_of, hit_by, hits_of, prefixes_of, qualified_of}
+use Rattle.prefix_stack.specs.Descent.{IsLevelOf, IsParent, candidates_of, child_of, children_of, hit_by, prefixes_of, qualified_of}
 
 qualified_more : (table : TableView) (least : ℤ) (cs : List Prefix) (c : Prefix)
     → qualified_of table least (cs ++ c ∷ []) ≡ qualified_of table least cs ++ cond (int_le least (hit_by table c).estimate) (hit_by table c ∷ []) []

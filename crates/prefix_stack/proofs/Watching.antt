@@ -1,7 +1,6 @@
 -- The watched networks of a length, and the options with them.
-use Rattle.std.proofs.Common.{◌≡◌, ◌≢◌, ◌∙◌, ◌<◌, ◌≤◌, ◌+◌, ◌*◌, ℕ, zero, suc, Bool, true, false, cond, List, [], ◌∷◌, ◌++◌, length, map, filter, take, get_or, refl, sym, ap, subst, arith, All, Some}
-use Rattle.std.specs.Prelude.{◌==◌, AllPairs, slice_get}
-use Rattle.std.specs.List.{range_with_len}
+use Rattle.std.proofs.Common.{◌≡◌, ◌≢◌, ◌∙◌, ◌<◌, ◌≤◌, ◌+◌, ℕ, zero, suc, Bool, true, false, cond, List, [], ◌∷◌, ◌++◌, length, map, filter, take, get_or, refl, sym, ap, subst, arith, All}
+use Rattle.std.specs.Prelude.{◌==◌, AllPairs}
 use Rattle.std.proofs.lemmas.List.{get_or-map, length-map, map-append, take_more}
 use Rattle.std.proofs.lemmas.List.Elements.{All-filter, filter-append}
 use Rattle.packet_key.specs.declared.key.FlowKey.{FlowKey}
@@ -11,9 +10,9 @@ use Rattle.hash_rows.specs.declared.options.Sketch.{Sketch}
 use Rattle.hash_rows.specs.declared.options.Sketch.TheVariants.{CountMin}
 use Rattle.hash_rows.specs.Lawful.{IsLawful, Suits}
 use Rattle.prefixes.specs.declared.network.Prefix.{Prefix}
-use Rattle.prefixes.specs.Networks.{prefix_key}
+use Rattle.prefixes.specs.Networks.{AreWatched, prefix_key}
 use Rattle.prefix_stack.specs.Descent.{everything}
-use Rattle.prefix_stack.specs.Runs.{AreWatched, IsStackRun, level_options, watched_at}
+use Rattle.prefix_stack.specs.Runs.{IsStackRun, level_options, watched_at}
 
 module _ {X : Type 0} (R : X → X → Type 0) where
   pairs_head : (x : X) (xs : List X) → AllPairs R (x ∷ xs) → All (R x) xs

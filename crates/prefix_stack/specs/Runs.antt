@@ -1,5 +1,5 @@
 -- The run of each length.
-use Rattle.std.specs.Prelude.{◌≡◌, ◌≢◌, ◌≤◌, ◌≤ℤ◌, ◌<◌, ◌+◌, ◌*◌, ◌==◌, ℕ, pos, List, [], length, map, filter, All, AllPairs, slice_index_or}
+use Rattle.std.specs.Prelude.{◌≡◌, ◌≤ℤ◌, ◌<◌, ◌+◌, ◌*◌, ◌==◌, ℕ, pos, List, length, map, filter, All, slice_index_or}
 use Rattle.listed.specs.Listed.{Listed}
 use Rattle.hash_rows.specs.declared.answer.Answer.{Answer}
 use Rattle.hash_rows.specs.declared.options.Options.{Options}
@@ -15,15 +15,9 @@ use Rattle.push_history.specs.LagRun.{lag_run}
 use Rattle.push_history.specs.Rounds.{AreRounds}
 use Rattle.round_law.specs.Outcome.{IsNearAnswer}
 use Rattle.prefixes.specs.declared.network.Prefix.{Prefix}
-use Rattle.prefixes.specs.Networks.{IsNetwork, prefix_key}
+use Rattle.prefixes.specs.Networks.{prefix_key}
 use Rattle.prefix_stack.specs.Descent.{hit_by}
-use Rattle.prefix_stack.specs.Levels.{level_packets, level_table, lengths, network_amount}
-
--- at most 16 networks, which differ
-pub record AreWatched (watch : List Prefix) : Type 0 where
-  pub most : length watch ≤ 16
-  pub are_networks : All IsNetwork watch
-  pub differ : AllPairs (λ p q. p ≢ q) watch
+use Rattle.prefix_stack.specs.Levels.{level_packets, network_amount}
 
 -- those of the length
 unfoldable pub watched_at : ℕ → List Prefix → List Prefix

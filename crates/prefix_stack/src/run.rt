@@ -1,8 +1,8 @@
 ghost use Rattle.std.specs.Prelude.{◌≡◌, ◌<◌, ◌≤◌, ◌+◌, ◌++◌, ◌∷◌, [], All, length, map, IfOk};
-ghost use Rattle.prefixes.specs.Networks.{IsLength, IsNetwork, prefix_key};
+ghost use Rattle.prefixes.specs.Networks.{AreWatched, IsLength, IsNetwork, prefix_key};
 ghost use Rattle.prefix_stack.specs.Descent.{IsFound, MissesNone};
 ghost use Rattle.prefix_stack.specs.Levels.{level_packets, level_table, level_tables};
-ghost use Rattle.prefix_stack.specs.Runs.{AreLevelAnswers, AreWatched, IsNeverBelow, HaveAnswers, IsStackRun, level_options, watched_at};
+ghost use Rattle.prefix_stack.specs.Runs.{AreLevelAnswers, IsNeverBelow, HaveAnswers, IsStackRun, level_options, watched_at};
 
 use crate::descent::descend;
 use crate::hit::{AnswerRows, Stack, Tables};

@@ -1,5 +1,5 @@
 -- IPv4 networks whose length is that of whole bytes (RFC 4632, section 3.1).
-use Rattle.std.specs.Prelude.{◌≡◌, ◌<◌, ◌⊎◌, ℕ, ◌-◌, ◌%◌, ◌^◌}
+use Rattle.std.specs.Prelude.{◌≡◌, ◌≢◌, ◌<◌, ◌≤◌, ◌⊎◌, ℕ, ◌-◌, ◌%◌, ◌^◌, List, length, All, AllPairs}
 use Rattle.packet_key.specs.declared.key.FlowKey.{FlowKey}
 use Rattle.packet_key.specs.declared.key.FlowKey.TheVariants.{V4}
 use Rattle.prefixes.specs.declared.network.Prefix.{Prefix}
@@ -25,3 +25,9 @@ network_of length address = record { bits = address - address % addresses_in len
 -- the key that stands for a network in a sketch
 abbrev pub prefix_key : Prefix → FlowKey
 prefix_key p = V4 p.bits 0 0 0 p.length
+
+-- at most 16 networks, which differ
+pub record AreWatched (watch : List Prefix) : Type 0 where
+  pub most : length watch ≤ 16
+  pub are_networks : All IsNetwork watch
+  pub differ : AllPairs (λ p q. p ≢ q) watch

@@ -1,0 +1,4 @@
+mod Answering
+mod Lengths
+mod LevelList
+mod Tables
