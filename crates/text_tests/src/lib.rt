@@ -2,6 +2,10 @@
 #![tactic(auto)]
 
 #[cfg(test)]
+mod of_epochs;
+#[cfg(test)]
+mod of_prefix;
+#[cfg(test)]
 mod of_reports;
 #[cfg(test)]
 mod of_texts;

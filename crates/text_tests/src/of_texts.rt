@@ -190,7 +190,7 @@ fn a_report_has_a_line_for_each_number(rt: HostRuntime) -> Result<(), Fail> {
 }
 
 // The first lines of the text.
-fn first_lines(text: &[u8], lines: u32) -> &[u8] {
+pub(crate) fn first_lines(text: &[u8], lines: u32) -> &[u8] {
     let mut left = lines;
     for (place, byte) in text.iter().enumerate() {
         if left == 0 {

@@ -25,7 +25,7 @@ fn run(alloc: Global, words: &[&str]) -> Result<Options, Fail> {
 
 #[test]
 fn refuses_what_the_grammar_lacks(rt: HostRuntime) -> Result<(), Fail> {
-    let refused: [&[&str]; 28] = [
+    let refused: [&[&str]; 51] = [
         &[],
         &["walk"],
         &["run", "--threshold", "0"],
@@ -54,6 +54,29 @@ fn refuses_what_the_grammar_lacks(rt: HostRuntime) -> Result<(), Fail> {
         &["run", "--sketch", "loglog", "--columns", "100"],
         &["run", "--sketch", "loglog", "--amount", "packets"],
         &["run", "--watch", "10.0.0.1:80>10.0.0.2:443/6,"],
+        &["run", "--watch", "10.0.0.0/8"],
+        &["prefix", "--watch", "10.0.0.1:80>10.0.0.2:443/6"],
+        &["prefix", "--watch", "10.0.0.1/8"],
+        &["prefix", "--watch", "10.0.0.0/9"],
+        &["prefix", "--watch", "10.0.0.0/8,10.0.0.0/8"],
+        &["prefix", "--sketch", "count-min"],
+        &["prefix", "--mode", "rounds"],
+        &["prefix", "--journal"],
+        &["prefix", "--start", "1"],
+        &["epochs"],
+        &["epochs", "--packets", "255"],
+        &["epochs", "--packets", "16777217"],
+        &["epochs", "--packets=256", "--change=0"],
+        &["epochs", "--packets=256", "--sketch=count-sketch"],
+        &["epochs", "--packets=256", "--readers=1"],
+        &["epochs", "--packets=256", "--asks=1"],
+        &["epochs", "--packets=256", "--journal"],
+        &["epochs", "--packets=256", "--watch=10.0.0.0/8"],
+        &["run", "--packets=256"],
+        &["audit", "--rows", "2"],
+        &["audit", "audit"],
+        &["audit", ""],
+        &["run", "--change=1024"],
     ];
     for words in refused {
         assert!(rt; read(rt.alloc(), words)?.is_none());
@@ -177,5 +200,66 @@ fn watches_keys(rt: HostRuntime) -> Result<(), Fail> {
     assert_eq!(rt; keys.len(), 2);
     assert_eq!(rt; Some(keys[0]), parse_key(first));
     assert_eq!(rt; Some(keys[1]), parse_key(second));
+    Ok(())
+}
+
+#[test]
+fn watches_networks(rt: HostRuntime) -> Result<(), Fail> {
+    let words = ["prefix", "--asks=3", "--watch", "10.0.0.1/32,10.0.0.0/8"];
+    let Some(Command::Prefix { options, watch }) = read(rt.alloc(), &words)? else {
+        return Err(Fail::from("no prefix"));
+    };
+    assert_eq!(rt;
+        (options.sketch, options.mode),
+        (Sketch::CountMin, Mode::Rounds)
+    );
+    assert_eq!(rt;
+        (options.asks, options.watch.len(), options.journal),
+        (3, 0, false)
+    );
+    let networks = watch.as_slice();
+    assert_eq!(rt; networks.len(), 2);
+    assert_eq!(rt; (networks[0].bits, networks[0].length), (0x0a000001, 32));
+    assert_eq!(rt; (networks[1].bits, networks[1].length), (0x0a000000, 8));
+    Ok(())
+}
+
+#[test]
+fn counts_in_epochs(rt: HostRuntime) -> Result<(), Fail> {
+    let lines: [(&[&str], u32, u64, Mode); 3] = [
+        (&["epochs", "--packets", "256"], 256, 1024, Mode::Rounds),
+        (
+            &["epochs", "--mode=threads", "--packets=16777216"],
+            16777216,
+            1024,
+            Mode::Threads,
+        ),
+        (
+            &["epochs", "--change", "1099511627776", "--packets=300"],
+            300,
+            1099511627776,
+            Mode::Rounds,
+        ),
+    ];
+    for (words, size, least, mode) in lines {
+        let Some(
+            Command::Epochs {
+                packets,
+                change,
+                options,
+            },
+        ) = read(rt.alloc(), words)?
+        else {
+            return Err(Fail::from("no epochs"));
+        };
+        assert_eq!(rt; (packets, change, options.mode), (size, least, mode));
+        assert_eq!(rt; (options.sketch, options.readers), (Sketch::CountSketch, 0));
+    }
+    Ok(())
+}
+
+#[test]
+fn an_audit_is_one_word(rt: HostRuntime) -> Result<(), Fail> {
+    assert!(rt; matches!(read(rt.alloc(), &["audit"])?, Some(Command::Audit)));
     Ok(())
 }

@@ -1,0 +1,3 @@
+mod OneChange
+mod OneReport
+mod Whole

@@ -1,0 +1,12 @@
+use Rattle.std.proofs.Common.{◌≡◌, []}
+use Rattle.epoch_run.specs.Epochs.{AreEpochs, epoch_count, sketch_table}
+use Rattle.epoch_run.specs.Places.{packets_before}
+use Rattle.epoch_run.proofs.run.epochs_rounds.Given as goal
+
+abbrev pub invariant-loop-number : goal.invariant-loop-number
+invariant-loop-number g l = record {
+  epochs : AreEpochs l.size l.change l.options l.packets l.number l.epochs.items;
+  room : l.epochs.room ≡ epoch_count l.size l.packets;
+  new : l.new ≡ sketch_table l.options.shape [];
+  old : l.old ≡ sketch_table l.options.shape (packets_before l.size l.packets l.number);
+}

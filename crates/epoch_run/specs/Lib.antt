@@ -1,0 +1,4 @@
+pub mod Changes
+pub mod Distances
+pub mod Epochs
+pub mod Places
