@@ -4,3 +4,4 @@ pub mod PlaceLaw
 pub mod AnswerLaw
 pub mod LiveLaw
 pub mod JournalLaw
+pub mod Failing

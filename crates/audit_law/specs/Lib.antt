@@ -1,4 +1,5 @@
 pub mod Tests
+pub mod Firsts
 pub mod LineNumbers
 pub mod Forms
 pub mod WorkerTests

@@ -5,5 +5,5 @@
 mod failure;
 mod laws;
 
-pub use failure::{Failure, Value};
+pub use failure::{Failure, Value, first_of};
 pub use laws::none_fails_where_lawful;

@@ -5,3 +5,5 @@ pub mod WorkerCases
 pub mod LineCases
 pub mod GivenCases
 pub mod GivenRanges
+pub mod Formed
+pub mod Joined

@@ -4,8 +4,12 @@
 mod given;
 mod lines;
 mod runs;
+mod threads;
+mod verdict;
 mod word;
 mod workers;
 
 pub use given::{Given, given_of};
+pub use threads::audit_threads;
+pub use verdict::Verdict;
 pub use word::Word;

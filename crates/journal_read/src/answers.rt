@@ -67,6 +67,9 @@ pub fn read_answer(line: &[u8], answer: &mut Answer) -> bool
     requires { FitsLine answer.old }
     ensures asked { IsSameAsked answer.old answer.new }
     ensures yes { result ≡ true → line.now ≡ answer_line (parts_of answer.new) }
+    ensures once { result ≡ true → (a : AnswerParts) → IsAnswerOf answer.old.reader answer.old.number
+        (length answer.old.front.items) (length answer.old.shown.items) a
+        → line.now ≡ answer_line a → parts_of answer.new ≡ a }
     ensures no { result ≡ false → (a : AnswerParts) → IsAnswerOf answer.old.reader answer.old.number
         (length answer.old.front.items) (length answer.old.shown.items) a
         → line.now ≢ answer_line a }

@@ -1,4 +1,4 @@
-ghost use Rattle.std.specs.Prelude.{◌≡◌, ◌≢◌, ◌<◌, ◌^◌, ℕ, MatchOption, true, false};
+ghost use Rattle.std.specs.Prelude.{◌≡◌, ◌≢◌, ◌<◌, ◌^◌, ℕ, MatchOption, IfSome, true, false};
 ghost use Rattle.octo_text.specs.JournalText.{worker_line, run_line};
 
 use crate::numbers::number_behind;
@@ -50,11 +50,13 @@ fn is_worker(line: &[u8], said: &WorkerLine) -> bool
     text.as_slice() == line
 }
 
-/// What the line says, exactly where it is a worker's line.
+/// What the line says, exactly where it is a worker's line. It says one thing alone.
 pub fn read_worker(line: &[u8]) -> Option<WorkerLine>
-    ensures { MatchOption result
+    ensures line { MatchOption result
         ((worker pushes refused : ℕ) → worker < 2 ^ 64 → pushes < 2 ^ 64 → refused < 2 ^ 64 → line.now ≢ worker_line worker pushes refused)
         (λ said. line.now ≡ worker_line said.worker said.pushes said.refused) }
+    ensures once { IfSome result (λ said. (worker pushes refused : ℕ) → worker < 2 ^ 64 → pushes < 2 ^ 64 → refused < 2 ^ 64
+        → line.now ≡ worker_line worker pushes refused → said ≡ record { worker = worker; pushes = pushes; refused = refused }) }
 {
     let said = worker_in(line);
     if is_worker(line, &said) {
@@ -92,11 +94,13 @@ fn is_run(line: &[u8], said: &RunLine) -> bool
     text.as_slice() == line
 }
 
-/// What the line says, exactly where it is a line of refused updates.
+/// What the line says, exactly where it is a line of refused updates. It says one thing alone.
 pub fn read_run(line: &[u8]) -> Option<RunLine>
-    ensures { MatchOption result
+    ensures line { MatchOption result
         ((worker first last : ℕ) → worker < 2 ^ 64 → first < 2 ^ 64 → last < 2 ^ 64 → line.now ≢ run_line worker (first, last))
         (λ said. line.now ≡ run_line said.worker (said.first, said.last)) }
+    ensures once { IfSome result (λ said. (worker first last : ℕ) → worker < 2 ^ 64 → first < 2 ^ 64 → last < 2 ^ 64
+        → line.now ≡ run_line worker (first, last) → said ≡ record { worker = worker; first = first; last = last }) }
 {
     let said = run_in(line);
     if is_run(line, &said) {

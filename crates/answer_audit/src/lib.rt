@@ -1,0 +1,9 @@
+//! What the answers of a journal are judged by.
+#![tactic(auto)]
+
+mod answers;
+mod fronts;
+mod reached;
+mod shown;
+
+pub use answers::answers_failure;

@@ -1,0 +1,16 @@
+pub mod Rows
+pub mod Places
+pub mod Judging
+pub mod Entered
+pub mod Keyed
+pub mod Proper
+pub mod Weights
+pub mod Joining
+pub mod Cuts
+pub mod OneLine
+pub mod OneTerms
+pub mod OneNext
+pub mod OneJournal
+pub mod LineEnds
+pub mod WordEnds
+pub mod NoBadLine

@@ -1,0 +1,8 @@
+use Rattle.std.proofs.Common.{◌≡◌, ◌≤◌, ◌*◌, take, count_by}
+use Rattle.told_table.specs.Tables.{all_messages}
+use Rattle.live_audit.specs.Counted.{is_possible}
+use Rattle.live_audit.proofs.counts.count_possible.Given as goal
+
+abbrev pub invariant-loop-list : goal.invariant-loop-list
+invariant-loop-list g l =
+    (l.count ≡ count_by (is_possible g.K.Kind.rules l.table l.least l.live) (all_messages (take l.list-index l.lists))) × (l.count ≤ 134217728 * l.list-index)

@@ -1,0 +1,4 @@
+pub mod Alone
+pub mod Bounds
+pub mod Counted
+pub mod Known
