@@ -1,16 +1,10 @@
 -- What a command reads.
-use Rattle.std.proofs.Common.{◌≡◌, ◌∙◌, inl, inr, refl, sym, ap, subst, append-nil, List, [], ℕ, ◌++◌, ◌≤◌}
-use Rattle.std.specs.Prelude.{Option, Some, None}
+use Rattle.std.proofs.Common.{◌≡◌, ◌∙◌, inl, inr, refl, sym, ap, subst, append-nil, List, [], ℕ, ◌++◌}
+use Rattle.std.specs.Prelude.{Some}
 use Rattle.flow_base.specs.Flow.{behind, Given}
 use Rattle.capture_load.specs.Capture.{CaptureOf, Refused, RefusesNext}
 use Rattle.capture_load.specs.declared.capture.Refusal.{Refusal}
 use Rattle.capture_load.proofs.Once.{refusal_stays}
-use Rattle.hash_rows.specs.Lawful.{IsLawful}
-use Rattle.words.specs.Options.{Gives, options_in}
-use Rattle.words.specs.Values.{NeedsNumber}
-use Rattle.words.specs.declared.command.Command.{Command}
-use Rattle.words.specs.declared.command.Command.TheVariants.{Run, Load}
-use Rattle.octo_run.specs.Runs.{IsReadyRun}
 use Rattle.capture_load.specs.Generated.{generated}
 use Rattle.capture_load.specs.Loads.{HoldsRefusal, record_limit}
 
@@ -35,12 +29,3 @@ module _ (records start : ℕ) (before after given : List ℕ) (is : before ≡ 
       by : HoldsRefusal given after bad → HoldsRefusal (generated records start) [] bad
       by (inl r) = inl (r.0, subst (λ (g : List ℕ). RefusesNext record_limit g r.0 bad) parts (refusal_stays record_limit given after r.0 bad r.1))
       by (inr r) = inr (refl, subst (λ (g : List ℕ). CaptureOf record_limit g (Refused bad)) (whole r.0) r.1)
-
-needed : (v : Option (List ℕ)) (n : ℕ) → NeedsNumber 0 1048576 v n → n ≤ 1048576
-needed None n p = absurd p
-needed (Some text) n p = p.2
-
--- a command of the grammar can be carried out
-pub ready : (k : Command) (words : List (List ℕ)) → Gives words k → IsLawful (options_in k) → IsReadyRun k
-ready (Run o) words gives lawful = lawful
-ready (Load records start o) words gives lawful = (lawful, needed _ records gives.2.3)

@@ -39,7 +39,7 @@ one_number t o a b x y = by (order x.rounds y.rounds)
     by (inr (inl less)) = absurd (true≢false (sym (y.busy x.rounds less) ∙ x.idle))
     by (inr (inr more)) = absurd (true≢false (sym (x.busy y.rounds more) ∙ y.idle))
 
-one_schedule : (t : Terms) (o : Options) (a b : List Event) → AreRounds t o a → AreRounds t o b → a ≡ b
+pub one_schedule : (t : Terms) (o : Options) (a b : List Event) → AreRounds t o a → AreRounds t o b → a ≡ b
 one_schedule t o a b x y =
     x.all ∙ ap (λ (n : ℕ). fold (ask_at_end o) (events_of_rounds t o n) (range_with_len 0 o.readers)) (one_number t o a b x y) ∙ sym y.all
 
@@ -62,7 +62,7 @@ one_report_text o p frames cut s t ask x y =
     x.text_is ∙ one_content _ _ _ cut o p x.report y.report ask x.report_is report ∙ sym y.text_is
 
 -- the frames and the cut bytes
-one_capture : (bytes : List ℕ) (fs gs : List Framed) (c d : ℕ) → CaptureOf record_limit bytes (Whole fs c) → CaptureOf record_limit bytes (Whole gs d) → (fs ≡ gs) × (c ≡ d)
+pub one_capture : (bytes : List ℕ) (fs gs : List Framed) (c d : ℕ) → CaptureOf record_limit bytes (Whole fs c) → CaptureOf record_limit bytes (Whole gs d) → (fs ≡ gs) × (c ≡ d)
 one_capture bytes fs gs c d x y =
     let same : Whole fs c ≡ Whole gs d = one_outcome record_limit bytes (Whole fs c) (Whole gs d) x y in (cc, cc)
 

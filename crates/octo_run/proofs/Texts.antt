@@ -11,7 +11,12 @@ use Rattle.push_history.specs.LawfulJournal.{IsJournalIn, LawfulJournal}
 use Rattle.push_history.specs.Rounds.{IsRoundsJournal}
 use Rattle.octo_text.specs.ReportText.{report_text}
 use Rattle.octo_run.specs.Results.{HasResults, asked_text, journal_of, results_text}
+use Rattle.octo_run.specs.Networks.{IsPrefixText}
 use Rattle.octo_run.specs.Runs.{IsJournalText, IsRunText}
+use Rattle.prefixes.specs.declared.network.Prefix.{Prefix}
+use Rattle.prefix_report.specs.PrefixText.{report_text as prefix_report_text}
+use Rattle.prefix_report.specs.Reports.{IsPrefixReport}
+use Rattle.prefix_report.specs.declared.report.PrefixReport.{PrefixReport}
 use Rattle.octo_run.specs.declared.results.Results.{Results}
 
 -- the journal of the rounds is lawful
@@ -42,5 +47,17 @@ run_text o bytes capture r loaded results = record {
   };
   journal = asked_text o.journal (journal_of o r);
   journal_is = asked o.journal _ o (journal_of o r) (rw (loaded.packets) at results.journal_is);
+  text_is = refl;
+}
+
+-- the report of a loaded capture's networks has the text of its bytes'
+pub prefix_text : (o : Options) (watch : List Prefix) (bytes : List ℕ) (capture : Capture) (r : PrefixReport) → IsLoaded o.amount bytes capture
+    → IsPrefixReport capture.packets.items capture.records capture.skipped capture.cut o watch r → IsPrefixText o watch bytes (prefix_report_text r)
+prefix_text o watch bytes capture r loaded report = record {
+  frames = loaded.frames;
+  cut = capture.cut;
+  whole = loaded.whole;
+  report = r;
+  report_is = rw (loaded.packets, loaded.records, loaded.skipped) at report;
   text_is = refl;
 }

@@ -1,6 +1,9 @@
 ghost use Rattle.std.specs.Prelude.{◌≡◌, ℕ, List};
 ghost use Rattle.hash_rows.specs.declared.options.Mode.{Mode};
 ghost use Rattle.hash_rows.specs.declared.options.Options.{Options};
+ghost use Rattle.prefixes.specs.declared.network.Prefix.{Prefix};
+ghost use Rattle.octo_run.specs.Epochs.{IsEpochsText};
+ghost use Rattle.octo_run.specs.Networks.{IsPrefixText};
 ghost use Rattle.octo_run.specs.Runs.{IsRunText};
 ghost use Rattle.reports.specs.ReportOf.{AskForOneReport};
 
@@ -15,3 +18,19 @@ pub fn one_report()
     ensures { (o p : Options) (bytes s t : List ℕ) → AskForOneReport o p
         → (a : IsRunText o bytes s) → (b : IsRunText p bytes t) → a.report ≡ b.report }
 {}
+
+/// Bytes, options and watched networks determine the text of the bytes' source networks. A law: it
+/// does nothing when it runs.
+pub fn one_prefix_text()
+    ensures { (o : Options) (watch : List Prefix) (bytes s t : List ℕ)
+        → IsPrefixText o watch bytes s → IsPrefixText o watch bytes t → s ≡ t }
+{}
+
+/// Bytes, the packets of an epoch, the least change and options determine the text of the bytes'
+/// epochs, in both modes. A law: it does nothing when it runs.
+pub fn one_epochs_text()
+    ensures { (size change : ℕ) (o p : Options) (bytes s t : List ℕ) → AskForOneReport o p
+        → IsEpochsText size change o bytes s → IsEpochsText size change p bytes t → s ≡ t }
+{
+    epoch_report::one_report();
+}

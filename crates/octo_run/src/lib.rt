@@ -1,11 +1,13 @@
-//! A run of octo: from words and the bytes of a capture to a report and a journal, or to one line
-//! that says why there is none.
+//! A run of octo: from words and the bytes of a capture to a report and a journal, or to a report of
+//! source networks or of epochs, or to one line that says why there is none.
 #![tactic(auto)]
 
+mod epochs;
 mod faults;
 mod frame;
 mod laws;
 mod lines;
+mod prefix;
 mod results;
 mod rounds;
 mod run;
@@ -13,9 +15,11 @@ mod task;
 mod threads;
 
 pub use capture_load::{Capture, GenSource, LoadStop, Refusal, load_capture};
+pub use epochs::{octo_epochs_rounds, octo_epochs_threads};
 pub use faults::Fault;
-pub use laws::{one_report, one_text};
+pub use laws::{one_epochs_text, one_prefix_text, one_report, one_text};
 pub use lines::tell;
+pub use prefix::octo_prefix;
 pub use rounds::octo_rounds;
 pub use run::octo;
 pub use thread_engine::{Gate, OpenGate};

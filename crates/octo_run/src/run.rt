@@ -1,19 +1,23 @@
-ghost use Rattle.std.specs.Prelude.{◌≡◌, ◌≢◌, ◌≤◌, ◌⊎◌, ℕ, List, string_bytes, map};
+ghost use Rattle.std.specs.Prelude.{◌≡◌, ◌≢◌, ◌≤◌, ◌⊎◌, ℕ, List, string_bytes, map, true, false};
 ghost use Rattle.flow_base.specs.Causes.{Rose};
 ghost use Rattle.flow_base.specs.Flow.{Given, behind};
 ghost use Rattle.hash_rows.specs.Lawful.{IsLawful};
+ghost use Rattle.epoch_run.specs.Epochs.{IsEpochsRun};
 ghost use Rattle.capture_load.specs.Loads.{HoldsRefusal};
 ghost use Rattle.octo_run.specs.Ends.{CutShort, IsAccepted, IsEnd, IsTold, IsUnrefused, Reported, side};
+ghost use Rattle.octo_run.specs.Epochs.{IsEpochsText};
 ghost use Rattle.octo_run.specs.Faults.{TellsLine, fault_line, status_of_bad};
-ghost use Rattle.octo_run.specs.Runs.{GivenFor, HasText, IsReadyRun, IsRunText, Leaves, Spares};
+ghost use Rattle.octo_run.specs.Runs.{GivenFor, HasText, IsRunText, IsServed, Leaves, Spares};
 ghost use Rattle.octo_run.specs.declared.faults.Fault.{Fault};
 ghost use Rattle.capture_load.specs.declared.capture.Refusal.{Refusal};
 ghost use Rattle.hash_rows.specs.declared.options.Options.{Options};
-ghost use Rattle.words.specs.Options.{Gives};
+ghost use Rattle.words.specs.Options.{Gives, IsLawfulCommand};
 ghost use Rattle.words.specs.declared.command.Command.{Command};
 
+use crate::epochs::{octo_epochs_rounds, octo_epochs_threads};
 use crate::faults::Fault;
 use crate::lines::tell;
+use crate::prefix::octo_prefix;
 use crate::rounds::octo_rounds;
 use crate::threads::octo_threads;
 use capture_load::GenSource;
@@ -50,6 +54,35 @@ fn run_in_mode<R: Threads + Wait + Sync, S: Source, T: Sink, E: Sink, G: Gate>(
     }
 }
 
+// Counts a capture's epochs in the options' mode.
+fn epochs_in_mode<R: Threads + Wait + Sync, S: Source, T: Sink, E: Sink, G: Gate>(
+    rt: &R,
+    alloc: Global,
+    size: u32,
+    change: u64,
+    options: &Options,
+    source: &mut S,
+    out: &mut T,
+    err: &mut E,
+    gate: &G,
+) -> Status
+    requires { IsEpochsRun size change options.now }
+    ensures ended { IsEnd (Given (S.left source.old) (S.left source.new)) (IsEpochsText size change options.now)
+        (side (S.left source.old) (S.faults source.old)) (side (S.left source.new) (S.faults source.new))
+        (side (T.holds out.old) (T.faults out.old)) (side (T.holds out.new) (T.faults out.new))
+        (side (E.holds err.old) (E.faults err.old)) (side (E.holds err.new) (E.faults err.new)) result }
+    ensures front { (given : List ℕ) × (S.left source.old ≡ behind given (S.left source.new)) }
+    ensures quiet { result ≡ Status.Done → err.new ≡ err.old }
+    ensures untouched { result ≢ Status.Done → result ≢ Status.WriteFault → out.new ≡ out.old }
+{
+    match options.mode {
+        Mode::Rounds => octo_epochs_rounds(rt, alloc, size, change, options, source, out, err),
+        Mode::Threads => {
+            octo_epochs_threads(rt, alloc, size, change, options, source, out, err, gate)
+        }
+    }
+}
+
 // Does what the command says.
 fn carry_out<R: Threads + Wait + Sync, S: Source, T: Sink, E: Sink, G: Gate>(
     rt: &R,
@@ -60,7 +93,8 @@ fn carry_out<R: Threads + Wait + Sync, S: Source, T: Sink, E: Sink, G: Gate>(
     err: &mut E,
     gate: &G,
 ) -> Status
-    requires { IsReadyRun command }
+    requires lawful { IsLawfulCommand command }
+    requires served { IsServed command }
     ensures ended { IsEnd (GivenFor command (S.left source.old) (S.left source.new)) (HasText command)
         (side (S.left source.old) (S.faults source.old)) (side (S.left source.new) (S.faults source.new))
         (side (T.holds out.old) (T.faults out.old)) (side (T.holds out.new) (T.faults out.new))
@@ -81,6 +115,26 @@ fn carry_out<R: Threads + Wait + Sync, S: Source, T: Sink, E: Sink, G: Gate>(
             let mut generated = GenSource::new(records, start);
             run_in_mode(rt, alloc, &options, &mut generated, out, err, gate)
         }
+        Command::Prefix { options, watch } => {
+            octo_prefix(rt, alloc, &options, watch.as_slice(), source, out, err)
+        }
+        Command::Epochs {
+            packets,
+            change,
+            options,
+        } => epochs_in_mode(rt, alloc, packets, change, &options, source, out, err, gate),
+        Command::Audit => tell(err, Fault::Usage),
+    }
+}
+
+// Whether the command is carried out so far.
+fn is_served(command: &Command) -> bool
+    ensures yes { result ≡ true → IsServed command.now }
+    ensures no { result ≡ false → IsServed command.now → ⊥ }
+{
+    match command {
+        Command::Audit => false,
+        _ => true,
     }
 }
 
@@ -96,9 +150,9 @@ pub fn octo<R: Threads + Wait + Sync, S: Source, T: Sink, E: Sink, G: Gate>(
     err: &mut E,
     gate: &G,
 ) -> Status
-    // Usage, exactly where the words aren't in the grammar. Nothing is read.
-    ensures usage { result ≡ Status.Usage → (command : Command) → Gives (map string_bytes words.now) command → ⊥ }
-    ensures grammar { ((command : Command) → Gives (map string_bytes words.now) command → ⊥)
+    // Usage, exactly where the words give no command that is carried out. Nothing is read.
+    ensures usage { result ≡ Status.Usage → (command : Command) → Gives (map string_bytes words.now) command → IsServed command → ⊥ }
+    ensures grammar { ((command : Command) → Gives (map string_bytes words.now) command → IsServed command → ⊥)
         → (result ≡ Status.Usage) ⊎ (result ≡ Status.NoMemory) }
     ensures unread { result ≡ Status.Usage → (source.new ≡ source.old) × (out.new ≡ out.old) }
     ensures front { (given : List ℕ) × (S.left source.old ≡ behind given (S.left source.new)) }
@@ -131,6 +185,11 @@ pub fn octo<R: Threads + Wait + Sync, S: Source, T: Sink, E: Sink, G: Gate>(
     match read_words(alloc, words) {
         Err(WordStop::Usage) => tell(err, Fault::Usage),
         Err(WordStop::NoMemory) => tell(err, Fault::NoMemory),
-        Ok(command) => carry_out(rt, alloc, command, source, out, err, gate),
+        Ok(command) => {
+            if !is_served(&command) {
+                return tell(err, Fault::Usage);
+            }
+            carry_out(rt, alloc, command, source, out, err, gate)
+        }
     }
 }

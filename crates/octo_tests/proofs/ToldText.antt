@@ -1,7 +1,7 @@
 -- What a source and an output that tell their bytes make of the clauses of a run.
 use Rattle.std.proofs.Common.{◌≡◌, ◌∙◌, refl, sym, ap, subst, append-nil, List, [], ℕ, ◌++◌}
 use Rattle.std.specs.Prelude.{Option, Some}
-use Rattle.flow_base.specs.Flow.{behind, grown, Given}
+use Rattle.flow_base.specs.Flow.{behind, Given}
 use Rattle.octo_run.specs.Ends.{Reported}
 
 -- the one text is what the output took

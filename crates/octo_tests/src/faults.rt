@@ -14,6 +14,9 @@ const WORDS: &str = "run --workers 1 --threshold 1 --least 1 --watch 10.0.0.1:12
 const WITH_JOURNAL: &str =
     "run --rows 1 --columns 1 --workers 1 --threshold 1 --lane 1 --round 4 --readers 1 --asks 3 --least 5 --watch 10.0.0.1:1234>10.0.0.2:443/6 --journal";
 
+/// Words whose text of the epochs of 300 packets has 18 lines.
+const EPOCHS: &str = "epochs --packets 256 --rows 1 --columns 1 --least 100 --change 212";
+
 // How a run ends whose source gives pieces and fails at a call.
 fn end_of_reads<R: Threads + Wait + Sync>(
     rt: &R,
@@ -88,6 +91,7 @@ fn a_failing_write_leaves_whole_lines(rt: HostRuntime) -> Result<(), Fail> {
     let alloc = rt.alloc();
     assert!(rt; leaves_lines(&rt, alloc, WORDS, "LH tcp", 15)?);
     assert!(rt; leaves_lines(&rt, alloc, WITH_JOURNAL, "LH 6*tcp", 24)?);
+    assert!(rt; leaves_lines(&rt, alloc, EPOCHS, "LH 300*tcp", 18)?);
     Ok(())
 }
 

@@ -152,11 +152,15 @@ fn gated<R: Threads + Wait + Sync, G: Gate>(
 
 #[test]
 fn workers_go_beside_each_other(rt: HostRuntime) -> Result<(), Fail> {
-    let gate = Meeting::new();
-    let line = "run --mode threads --workers 2";
-    let end = gated(&rt, rt.alloc(), line, "LH 4*tcp", &gate)?;
-    assert_eq!(rt; end.status, Status::Done);
-    assert_eq!(rt; gate.misses.load(Ordering::SeqCst), 0);
+    for line in [
+        "run --mode threads --workers 2",
+        "epochs --packets 256 --workers 2 --mode threads",
+    ] {
+        let gate = Meeting::new();
+        let end = gated(&rt, rt.alloc(), line, "LH 4*tcp", &gate)?;
+        assert!(rt; end.status == Status::Done, "{line}");
+        assert!(rt; gate.misses.load(Ordering::SeqCst) == 0, "{line}");
+    }
     Ok(())
 }
 

@@ -22,7 +22,11 @@ mod refusals;
 #[cfg(test)]
 mod runs;
 #[cfg(test)]
+mod worked_epochs;
+#[cfg(test)]
 mod worked_journals;
+#[cfg(test)]
+mod worked_networks;
 #[cfg(test)]
 mod worked_reports;
 #[cfg(test)]

@@ -2,7 +2,7 @@ use Rattle.std.proofs.Common.{sym, subst}
 use Rattle.octo_run.specs.Runs.{Spares}
 use Rattle.octo_run.proofs.Ends.{at_command, load_end, no_rise}
 use Rattle.words.specs.declared.command.Command.{Command}
-use Rattle.words.specs.declared.command.Command.TheVariants.{Run, Load}
+use Rattle.words.specs.declared.command.Command.TheVariants.{Run, Load, Prefix, Epochs}
 use Rattle.octo_run.proofs.run.carry_out.Goals as goal
 
 pub returns-in-Run-clause-ended : goal.returns-in-Run-clause-ended
@@ -18,3 +18,14 @@ returns-in-Load-clause-ended g c =
 pub returns-in-Load-clause-spared : goal.returns-in-Load-clause-spared
 returns-in-Load-clause-spared g c =
     subst (λ (k : Command). Spares k c.run_in_mode-in-Load.result) (sym c.in-Load.is) (λ is. no_rise (c.run_in_mode-in-Load.ensures.ended.read is))
+
+pub returns-in-Prefix-clause-ended : goal.returns-in-Prefix-clause-ended
+returns-in-Prefix-clause-ended g c =
+    at_command c.args.command (Prefix c.in-Prefix.options c.in-Prefix.watch) (g.S.Source.left c.args.source.now) (g.S.Source.left c.octo_prefix.new.source) _ _ _ _ _ _ _ c.in-Prefix.is
+    (rw c.as_slice.ensures at c.octo_prefix.ensures.ended)
+
+pub returns-in-Epochs-clause-ended : goal.returns-in-Epochs-clause-ended
+returns-in-Epochs-clause-ended g c =
+    let k = c.in-Epochs in
+    at_command c.args.command (Epochs k.packets k.change k.options) (g.S.Source.left c.args.source.now) (g.S.Source.left c.epochs_in_mode.new.source) _ _ _ _ _ _ _ k.is
+    c.epochs_in_mode.ensures.ended
