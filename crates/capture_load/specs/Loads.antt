@@ -26,7 +26,8 @@ record_limit = 16777216
 
 -- the bytes given hold this refusal; one of a beginning that isn't whole stands at the end of input alone
 abbrev pub HoldsRefusal : List ℕ → List ℕ → Refusal → Type 0
-HoldsRefusal given rest refusal = ((frames : List Framed) × RefusesNext record_limit given frames refusal) ⊎ ((rest ≡ []) × CaptureOf record_limit given (Refused refusal))
+HoldsRefusal given rest refusal = ((frames : List Framed) × RefusesNext record_limit given frames refusal)
+    ⊎ ((rest ≡ []) × CaptureOf record_limit given (Refused refusal))
 
 -- the bytes are a capture, and this is what was loaded of it
 pub record IsLoaded (amount : Amount) (bytes : List ℕ) (capture : Capture) : Type 0 where

@@ -13,4 +13,4 @@ mod steps;
 pub use capture::{Capture, LoadStop, Refusal};
 pub use generated::GenSource;
 pub use laws::{generated_whole, one_outcome, refusal_stays};
-pub use load::load_capture;
+pub use load::{load_behind, load_capture};

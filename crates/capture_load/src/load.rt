@@ -1,6 +1,7 @@
 ghost use Rattle.std.specs.Prelude.{◌≡◌, ◌≤◌, ℕ, [], List, IfOk, IfErr, OnOk, IsErrOf, MatchResult, length};
 ghost use Rattle.flow_base.specs.Causes.{Rose};
 ghost use Rattle.flow_base.specs.Flow.{Given, behind};
+ghost use Rattle.flow_base.specs.LinesRead.{left_of};
 ghost use Rattle.capture_load.specs.Capture.{RefusesNext};
 ghost use Rattle.capture_load.specs.Loads.{Counts, EndsIn, HoldsRefusal, IsLoaded, Loads};
 ghost use Rattle.capture_load.specs.declared.capture.Refusal.{Refusal};
@@ -13,7 +14,7 @@ use crate::format::Format;
 use crate::loading::Loading;
 use crate::notes::Notes;
 use crate::{Capture, LoadStop};
-use flow_base::{NoMemory, Source};
+use flow_base::{Ahead, NoMemory, Source};
 use hash_rows::{Amount, Packets, Tallies};
 use std::alloc::Global;
 
@@ -40,16 +41,47 @@ pub fn load_capture<S: Source>(
     ensures front { (given : List ℕ) × (S.left source.old ≡ behind given (S.left source.new)) }
     ensures later { S.faults source.old ≤ S.faults source.new }
 {
+    let mut ahead = Ahead::new(source);
+    load_behind(alloc, &mut ahead, amount)
+}
+
+/// The same of a source whose next bytes were looked at: the capture begins with those that aren't
+/// taken yet.
+pub fn load_behind<S: Source>(
+    alloc: Global,
+    source: &mut Ahead<'_, S>,
+    amount: Amount,
+) -> Result<Capture, LoadStop>
+    ensures same_reference { source.new.source.ghost_name ≡ source.old.source.ghost_name }
+    ensures whole { IfOk result (λ capture. Given (left_of S.left source.old) (S.left source.new.source.now)
+        (λ given rest. (rest ≡ []) × IsLoaded amount given capture)) }
+    ensures read { IsErrOf result LoadStop.ReadFault → Rose (S.faults source.old.source.now) (S.faults source.new.source.now) }
+    ensures bad { (bad : Bad) → IsErrOf result (LoadStop.Bad bad)
+        → Given (left_of S.left source.old) (S.left source.new.source.now) (λ given rest. HoldsRefusal given rest (Refusal.Pcap bad)) }
+    ensures ng { (bad : NgBad) → IsErrOf result (LoadStop.Ng bad)
+        → Given (left_of S.left source.old) (S.left source.new.source.now) (λ given rest. HoldsRefusal given rest (Refusal.Ng bad)) }
+    ensures fine { OnOk result ((refusal : Refusal)
+        → Given (left_of S.left source.old) (S.left source.new.source.now) (λ given rest. HoldsRefusal given rest refusal → ⊥)) }
+    ensures unrefused { IsErrOf result LoadStop.ReadFault → (frames : List Framed) (refusal : Refusal)
+        → Given (left_of S.left source.old) (S.left source.new.source.now) (λ given rest. RefusesNext 16777216 given frames refusal → ⊥) }
+    ensures few { IfOk result (λ capture. length capture.packets.items ≤ 16777216) }
+    ensures front { (given : List ℕ) × (left_of S.left source.old ≡ behind given (S.left source.new.source.now)) }
+    ensures later { S.faults source.old.source.now ≤ S.faults source.new.source.now }
+{
     let mut loading = begin(alloc, amount)?;
-    let mut buf = [0u8; 4096];
     'reads: loop {
-        match source.read(&mut buf) {
+        match source.fill() {
             Err(_) => return Err(LoadStop::ReadFault),
-            Ok(0) => break,
-            Ok(count) => match loading.feed(alloc, &buf[..count]) {
-                Err(stop) => return Err(stop),
-                Ok(()) => {}
-            },
+            Ok(()) => {}
+        }
+        let window = source.window();
+        let count = window.len();
+        if count == 0 {
+            break;
+        }
+        match loading.feed(alloc, window) {
+            Err(stop) => return Err(stop),
+            Ok(()) => source.pass(count),
         }
     }
     finish(loading)

@@ -262,6 +262,33 @@ fn refusals_stand_at_every_cut(rt: HostRuntime) -> Result<(), Fail> {
     Ok(())
 }
 
+// Simple packets of no bytes, and blocks that are passed over: three, and the head of a fourth.
+const PACKETS: &[u8] =
+    b"\x03\0\0\0\x10\0\0\0\0\0\0\0\x10\0\0\0\x03\0\0\0\x10\0\0\0\0\0\0\0\x10\0\0\0\x03\0\0\0\x10\0\0\0\0\0\0\0\x10\0\0\0\x03\0\0\0\x10\0\0\0";
+
+const OTHERS: &[u8] =
+    b"\x05\0\0\0\x0c\0\0\0\x0c\0\0\0\x05\0\0\0\x0c\0\0\0\x0c\0\0\0\x05\0\0\0\x0c\0\0\0\x0c\0\0\0\x05\0\0\0\x0c\0\0\0";
+
+#[test]
+fn the_fourth_block_of_a_sort_is_one_too_many(rt: HostRuntime) -> Result<(), Fail> {
+    // With a limit of 3: a section and an interface are two others.
+    let rows: [(&[u8], &[u8], u32, Result<u32, NgBad>); 6] = [
+        (IB, &PACKETS[..48], 3, Ok(0)),
+        (IB, &PACKETS[..55], 3, Ok(7)),
+        (IB, PACKETS, 3, Err(NgBad::TooMany)),
+        (b"", &OTHERS[..24], 0, Ok(0)),
+        (b"", &OTHERS[..31], 0, Ok(7)),
+        (b"", &OTHERS[..32], 0, Err(NgBad::TooMany)),
+    ];
+    for (second, third, packets, end) in rows {
+        let input = joined(rt.alloc(), &[SB, second, third])?;
+        for piece in [1, 7, 1000] {
+            assert_eq!(rt; read_all(rt.alloc(), 3, &input, piece)?, (packets, 0, end));
+        }
+    }
+    Ok(())
+}
+
 #[test]
 fn a_packet_is_not_lent_before_its_end(rt: HostRuntime) -> Result<(), Fail> {
     let input = joined(rt.alloc(), &[SB, IB, EB_HEAD, F1, b"\0\0\x58\0\0\x01"])?;

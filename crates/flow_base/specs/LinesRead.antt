@@ -19,7 +19,15 @@ IsLine rest bytes Whole = (body : List ℕ) × (bytes ≡ body ++ 10 ∷ []) × 
 IsLine rest bytes Long = (length bytes ≡ 1024) × HasNoFeed bytes
 IsLine rest bytes Unfinished = (length bytes < 1024) × HasNoFeed bytes × IfSome rest (λ bs. bs ≡ [])
 
+-- fewer bytes than a line may have were given, without a line feed
+pub record BrokeOff (old new : Option (List ℕ)) : Type 0 where
+  pub given : List ℕ
+  pub taken : old ≡ behind given new
+  pub unended : HasNoFeed given
+  pub short : length given < 1024
+
 -- so many bytes of the window belong to a line with this room: up to its line feed, or as many as there are
 abbrev pub IsCut : List ℕ → ℕ → ℕ → Bool → Type 0
-IsCut window room count true = (0 < count) × (count ≤ room) × (count ≤ length window) × (body : List ℕ) × (take count window ≡ body ++ 10 ∷ []) × HasNoFeed body
+IsCut window room count true = (0 < count) × (count ≤ room) × (count ≤ length window) × (body : List ℕ)
+    × (take count window ≡ body ++ 10 ∷ []) × HasNoFeed body
 IsCut window room count false = (0 < count) × (count ≤ length window) × (count ≡ min room (length window)) × HasNoFeed (take count window)

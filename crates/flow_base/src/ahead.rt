@@ -1,4 +1,4 @@
-ghost use Rattle.std.specs.Prelude.{◌≡◌, ◌<◌, ◌≤◌, ◌++◌, ◌==◌, [], length, take, drop, min, IfOk, OnOk, IfSome};
+ghost use Rattle.std.specs.Prelude.{◌≡◌, ◌<◌, ◌≤◌, ◌++◌, ◌==◌, [], length, take, drop, min, IfOk, OnOk, IsErr, IfSome};
 ghost use Rattle.flow_base.specs.Causes.{HasCause};
 ghost use Rattle.flow_base.specs.Flow.{behind};
 
@@ -61,6 +61,7 @@ impl Window {
         ensures given { behind self.old (S.left source.old) ≡ behind self.new (S.left source.new) }
         ensures count { IfOk result (λ count. count ≡ length self.new) }
         ensures end { IfOk result (λ count. count ≡ 0 → IfSome (S.left source.old) (λ rest. rest ≡ [])) }
+        ensures drained { IsErr result → self.new ≡ [] }
         ensures cause { HasCause (S.faults source.old) (S.faults source.new) result }
         ensures through { S.through source.new ≡ S.through source.old }
     {
@@ -91,12 +92,14 @@ impl<'a, S: Source> Ahead<'a, S> {
         }
     }
 
-    /// Reads bytes ahead, where there are none. Where there are none even so, the input has ended.
+    /// Reads bytes ahead, where there are none. Where there are none even so, the input has ended, or
+    /// the source has failed.
     pub fn fill(&mut self) -> Result<(), Failed>
         ensures same_reference { self.new.source.ghost_name ≡ self.old.source.ghost_name }
         ensures left { behind self.new.window (S.left self.new.source.now) ≡ behind self.old.window (S.left self.old.source.now) }
         ensures kept { 0 < length self.old.window → self.new.window ≡ self.old.window }
         ensures end { OnOk result (self.new.window ≡ [] → IfSome (S.left self.old.source.now) (λ rest. rest ≡ [])) }
+        ensures drained { IsErr result → self.new.window ≡ [] }
         ensures cause { HasCause (S.faults self.old.source.now) (S.faults self.new.source.now) result }
     {
         if self.window.is_empty() {

@@ -1,4 +1,4 @@
-ghost use Rattle.std.specs.Prelude.{◌≡◌, ◌≢◌, ◌<◌, ◌≤◌, ◌+◌, ◌++◌, ◌==◌, ◌||◌, [], ◌∷◌, ℕ, List, All, length, take, true, false, IfOk, IsSome, min};
+ghost use Rattle.std.specs.Prelude.{◌≡◌, ◌≢◌, ◌<◌, ◌≤◌, ◌+◌, ◌++◌, ◌==◌, ◌||◌, [], ◌∷◌, ℕ, List, All, length, take, true, false, IfOk, IsErr, IsSome, min};
 ghost use Rattle.flow_base.specs.Causes.{HasCause};
 ghost use Rattle.flow_base.specs.Flow.{behind};
 ghost use Rattle.flow_base.specs.LinesRead.{IsCut};
@@ -50,7 +50,7 @@ fn put_behind(into: &mut [u8; 1024], len: usize, bytes: &[u8])
 }
 
 impl<'a, S: Source> Ahead<'a, S> {
-    ghost use Rattle.flow_base.specs.LinesRead.{left_of, IsLine};
+    ghost use Rattle.flow_base.specs.LinesRead.{left_of, IsLine, BrokeOff};
 
     /// Reads a line to the front of the buffer: up to its line feed, or 1,024 bytes, or the end of
     /// input, whatever comes first.
@@ -60,6 +60,8 @@ impl<'a, S: Source> Ahead<'a, S> {
         ensures given { IfOk result (λ line. left_of S.left self.old ≡ behind (take line.len into.new) (left_of S.left self.new)) }
         ensures line { IfOk result (λ line. IsLine (left_of S.left self.new) (take line.len into.new) line.end) }
         ensures front { (given : List ℕ) × (left_of S.left self.old ≡ behind given (left_of S.left self.new)) }
+        ensures broken { IsErr result → BrokeOff (left_of S.left self.old) (left_of S.left self.new) }
+        ensures drained { IsErr result → self.new.window ≡ [] }
         ensures cause { HasCause (S.faults self.old.source.now) (S.faults self.new.source.now) result }
     {
         let mut len = 0;

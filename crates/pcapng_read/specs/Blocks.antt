@@ -93,7 +93,8 @@ unfoldable pub enhanced_judged : ℕ → Walk → Order → List ℕ → Judged
 enhanced_judged limit w order x =
     if w.packets == limit then Refused TooMany
     else if not (is_length 32 (number_at order 4 x 4)) then Refused (BadBlock (place_in w) (number_at order 4 x 4))
-    else need 28 x (numbered_judged w order (number_at order 4 x 4) (number_at order 4 x 8) (number_at order 4 x 20) (number_at order 4 x 24))
+    else need 28 x (numbered_judged w order (number_at order 4 x 4) (number_at order 4 x 8) (number_at order 4 x 20)
+    (number_at order 4 x 24))
 
 -- how many bytes a simple packet has, where the snapshot length 0 cuts nothing
 abbrev pub simple_captured : ℕ → ℕ → ℕ

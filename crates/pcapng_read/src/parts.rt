@@ -23,7 +23,8 @@ pub fn take_part(plan: &Plan, seen: u32, held: &mut Vec<u8>, piece: &[u8]) -> us
     ensures bound { result ≤ length piece.now }
     ensures within { seen + result ≤ plan.now.total }
     ensures len { vec_len held.new ≡ min (keep_of plan.now) (seen + result) + (seen + result - (plan.now.total - 4)) }
-    ensures kept { (x : List ℕ) → length x ≡ seen → held.old.items ≡ kept_in plan.now x → held.new.items ≡ kept_in plan.now (x ++ take result piece.now) }
+    ensures kept { (x : List ℕ) → length x ≡ seen → held.old.items ≡ kept_in plan.now x
+        → held.new.items ≡ kept_in plan.now (x ++ take result piece.now) }
     ensures capacity { vec_capacity held.old ≤ vec_capacity held.new }
 {
     let front = plan.keep();

@@ -146,7 +146,8 @@ impl NgReader {
             (record { original = front.frame.original; bytes = front.frame.bytes.now })) }
         ensures on { IfSome result (λ front. GoesBehind self.old self.new piece.now front.used) }
         ensures none { IfNone result (self.new ≡ record self.old { lent = None }) }
-        ensures stands { IfNone result ((bytes : List ℕ) (frames : List Framed) → Stands self.old bytes frames → Stands self.new bytes frames) }
+        ensures stands { IfNone result ((bytes : List ℕ) (frames : List Framed) → Stands self.old bytes frames
+            → Stands self.new bytes frames) }
         ensures limit { self.new.limit ≡ self.old.limit }
     {
         self.forget();
