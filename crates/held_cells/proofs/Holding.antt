@@ -300,3 +300,12 @@ due_stands stands f p parts d is =
     let at = parts.values d.0 (parts.pending d.0 d.1 is).0 in
     let own : held_at f p d.0 ≡ d.1 = ap (λ o. shown_at o d.0 (kept_at f p.bytes p.side d.0)) is ∙ shown_own d.0 d.1 (kept_at f p.bytes p.side d.0) in
     (at.told, at.whole, subst (λ h. stands h at.told at.whole) own at.stood)
+
+-- the byte of the open cell tells the open value
+pub due_byte : {H : Type 0} (stands : H → ℤ → ℤ → Type 0) (f : Forms H) (p : Parts H) → AreParts stands f p → (cell : ℕ) (held : H) → p.due ≡ Some (cell, held)
+    → p.bytes ≡ slice_set p.bytes cell (byte_of (f.small held))
+due_byte stands f p parts cell held is =
+    let lt = (parts.pending cell held is).0 in
+    let own : held_at f p cell ≡ held = ap (λ o. shown_at o cell (kept_at f p.bytes p.side cell)) is ∙ shown_own cell held (kept_at f p.bytes p.side cell) in
+    let tells : get_or p.bytes cell mark ≡ byte_of (f.small held) = (parts.values cell lt).tells ∙ ap (λ h. byte_of (f.small h)) own in
+    sym (set_back p.bytes cell (byte_of (f.small held)) (slice_get-get_or p.bytes cell mark lt ∙ ap Some tells))

@@ -44,7 +44,8 @@ pub record Parts (Held : Type 0) : Type 0 where
 
 -- what byte and side table tell of a cell
 abbrev pub kept_at : {Held : Type 0} → Forms Held → List ℤ → List (ℕ × Held) → ℕ → Held
-kept_at f bytes side cell = if int_eq (get_or bytes cell mark) mark then unwrap_or (lookup (nat_eq cell) side) f.fresh else f.from_small (get_or bytes cell mark)
+kept_at f bytes side cell = if int_eq (get_or bytes cell mark) mark then unwrap_or (lookup (nat_eq cell) side) f.fresh else f.from_small
+    (get_or bytes cell mark)
 
 -- an open value comes before them
 abbrev pub shown_at : {Held : Type 0} → Option (ℕ × Held) → ℕ → Held → Held
@@ -77,7 +78,8 @@ pub record AreParts {Held : Type 0} (stands : Held → ℤ → ℤ → Type 0) (
 
 -- the side table has this value of the cell, where it has no small form, and those that it had of the others; no two
 -- entries are of one cell, there is at most one more, and its room is used
-pub record IsHeldBeside {Held : Type 0} (small : Option ℤ) (old : List (ℕ × Held)) (spare : ℕ) (cell : ℕ) (held : Held) (new : List (ℕ × Held)) (left : ℕ) : Type 0 where
+pub record IsHeldBeside {Held : Type 0} (small : Option ℤ) (old : List (ℕ × Held)) (spare : ℕ) (cell : ℕ) (held : Held) (new : List (ℕ
+    × Held)) (left : ℕ) : Type 0 where
   pub own : small ≡ None → lookup (nat_eq cell) new ≡ Some held
   pub others : (k : ℕ) → nat_eq cell k ≡ false → lookup (nat_eq k) new ≡ lookup (nat_eq k) old
   pub distinct : IsDistinct nat_eq (keys_of new)

@@ -21,6 +21,8 @@ pub struct HeldCells<K: Kind> {
     side: IndexMap<u32, K::Held>,
     due: Option<(u32, K::Held)>,
     left: u32,
+    /// Where the side table's entry stands that was looked up last.
+    place: usize,
 }
 
 impl<K: Kind> Model for HeldCells<K> {
@@ -57,6 +59,7 @@ impl<K: Kind> HeldCells<K> {
                 side,
                 due: None,
                 left: changes,
+                place: 0,
             }),
             Err(_) => Err(NoMemory),
         }
@@ -84,10 +87,24 @@ impl<K: Kind> HeldCells<K> {
         kept::<K>(&self.bytes, &self.side, cell)
     }
 
+    /// The same, of the cell that is changed next: its change looks nothing up.
+    #[inline(always)]
+    pub fn look_up(&mut self, cell: u32) -> K::Held
+        requires idle { self.old.due ≡ None }
+        requires cell { cell < length self.old.held }
+        ensures value { slice_get self.old.held cell ≡ Some result }
+        ensures stands { (told : ℤ) × (whole : ℤ) × K.stands result told whole }
+        ensures same { self.new ≡ self.old }
+    {
+        kept_with_place::<K>(&self.bytes, &self.side, cell, &mut self.place)
+    }
+
     /// The open value.
+    #[inline(always)]
     pub fn due(&self) -> K::Held
         requires { IsSome self.now.due }
-        ensures value { (cell : ℕ) → self.now.due ≡ Some cell → (cell < length self.now.held) × (slice_get self.now.held cell ≡ Some result) }
+        ensures value { (cell : ℕ) → self.now.due ≡ Some cell → (cell < length self.now.held)
+            × (slice_get self.now.held cell ≡ Some result) }
         ensures stands { (told : ℤ) × (whole : ℤ) × K.stands result told whole }
     {
         match self.due {
@@ -97,6 +114,7 @@ impl<K: Kind> HeldCells<K> {
     }
 
     /// Holds a value of the cell, and leaves it open.
+    #[inline(always)]
     pub fn put_due(&mut self, cell: u32, held: K::Held)
         requires idle { self.old.due ≡ None }
         requires left { 0 < self.old.left }
@@ -111,6 +129,7 @@ impl<K: Kind> HeldCells<K> {
     }
 
     /// Holds a value of the cell. This is one change.
+    #[inline(always)]
     pub fn set(&mut self, cell: u32, held: K::Held)
         requires idle { self.old.due ≡ None }
         requires left { 0 < self.old.left }
@@ -120,11 +139,12 @@ impl<K: Kind> HeldCells<K> {
         ensures idle { self.new.due ≡ None }
         ensures left { self.new.left + 1 ≡ self.old.left }
     {
-        hold::<K>(&mut self.bytes, &mut self.side, cell, held);
+        hold::<K>(&mut self.bytes, &mut self.side, self.place, cell, held);
         self.left -= 1;
     }
 
     /// Holds this value of the cell that is due. This is one change.
+    #[inline(always)]
     pub fn settle(&mut self, held: K::Held)
         requires due { IsSome self.old.due }
         requires stands { (told : ℤ) × (whole : ℤ) × K.stands held told whole }
@@ -134,7 +154,25 @@ impl<K: Kind> HeldCells<K> {
     {
         match self.due {
             Some((cell, _)) => {
-                hold::<K>(&mut self.bytes, &mut self.side, cell, held);
+                hold::<K>(&mut self.bytes, &mut self.side, self.place, cell, held);
+                self.due = None;
+                self.left -= 1;
+            }
+            None => unreachable!(),
+        }
+    }
+
+    /// Holds the open value, whose byte is told already. This is one change.
+    #[inline(always)]
+    pub fn keep_due(&mut self)
+        requires due { IsSome self.old.due }
+        ensures held { self.new.held ≡ self.old.held }
+        ensures idle { self.new.due ≡ None }
+        ensures left { self.new.left + 1 ≡ self.old.left }
+    {
+        match self.due {
+            Some((cell, held)) => {
+                keep::<K>(&self.bytes, &mut self.side, self.place, cell, held);
                 self.due = None;
                 self.left -= 1;
             }
@@ -166,23 +204,57 @@ impl<K: Kind> HeldCells<K> {
 // What byte and side table tell of the cell.
 fn kept<K: Kind>(bytes: &Listed<i8>, side: &IndexMap<u32, K::Held>, cell: u32) -> K::Held
     requires cell { cell < length bytes.now.items }
-    requires tells { (held : K.Held) × IsByteOf K.stands (record { small = K.small_of; from_small = K.held_of_small; fresh = K.fresh_held }) held (get_or bytes.now.items cell mark) }
-    ensures { result ≡ kept_at (record { small = K.small_of; from_small = K.held_of_small; fresh = K.fresh_held }) bytes.now.items side.now.entries cell }
+    requires tells { (held : K.Held)
+        × IsByteOf K.stands (record { small = K.small_of; from_small = K.held_of_small; fresh = K.fresh_held }) held
+        (get_or bytes.now.items cell mark) }
+    ensures { result ≡ kept_at (record {
+      small = K.small_of;
+      from_small = K.held_of_small;
+      fresh = K.fresh_held;
+    }) bytes.now.items side.now.entries cell }
+{
+    let mut place = 0;
+    kept_with_place::<K>(bytes, side, cell, &mut place)
+}
+
+// The same. Where the side table was asked, the place of its entry is kept.
+#[inline(always)]
+fn kept_with_place<K: Kind>(
+    bytes: &Listed<i8>,
+    side: &IndexMap<u32, K::Held>,
+    cell: u32,
+    place: &mut usize,
+) -> K::Held
+    requires cell { cell < length bytes.now.items }
+    requires tells { (held : K.Held)
+        × IsByteOf K.stands (record { small = K.small_of; from_small = K.held_of_small; fresh = K.fresh_held }) held
+        (get_or bytes.now.items cell mark) }
+    ensures { result ≡ kept_at (record {
+      small = K.small_of;
+      from_small = K.held_of_small;
+      fresh = K.fresh_held;
+    }) bytes.now.items side.now.entries cell }
 {
     let byte = *bytes.get(cell);
     if byte != MARK {
         return K::from_small(byte);
     }
-    match side.get(&cell) {
-        Some(held) => *held,
+    match side.get_full(&cell) {
+        Some((at, _, held)) => {
+            *place = at;
+            *held
+        }
         None => K::fresh(),
     }
 }
 
-// Holds this value of the cell: its byte, and the value beside it where there is no small form.
+// Holds this value of the cell: its byte, and the value beside it where there is no small form. The
+// place is where the cell's entry may stand.
+#[inline(always)]
 fn hold<K: Kind>(
     bytes: &mut Listed<i8>,
     side: &mut IndexMap<u32, K::Held>,
+    place: usize,
     cell: u32,
     held: K::Held,
 )
@@ -196,7 +268,27 @@ fn hold<K: Kind>(
     let byte = byte_for::<K>(held);
     bytes.set(cell, byte);
     if byte == MARK {
-        put(side, cell, held);
+        put(side, place, cell, held);
+    }
+}
+
+// The same, where the byte is told already.
+#[inline(always)]
+fn keep<K: Kind>(
+    bytes: &Listed<i8>,
+    side: &mut IndexMap<u32, K::Held>,
+    place: usize,
+    cell: u32,
+    held: K::Held,
+)
+    requires cell { cell < length bytes.now.items }
+    requires told { get_or bytes.now.items cell mark ≡ byte_of (K.small_of held) }
+    requires room { get nat_eq side.old cell ≡ None → 0 < spare side.old }
+    requires unique { IsUnique nat_eq side.old }
+    ensures { IsHeldBeside (K.small_of held) side.old.entries (spare side.old) cell held side.new.entries (spare side.new) }
+{
+    if *bytes.get(cell) == MARK {
+        put(side, place, cell, held);
     }
 }
 

@@ -17,7 +17,8 @@ abbrev pub EndsWith : List Push → List Push → Type 0
 EndsWith all back = (front : List Push) × (all ≡ front ++ back)
 
 abbrev pub Fits : ℕ → ℕ → List Push → List Push → ℕ → Log → Type 0
-Fits writer reader sent taken port v = (v.pushes ≡ true → (port ≡ writer) × (v.sent ≡ sent)) × (v.pops ≡ true → (port ≡ reader) × (v.taken ≡ taken))
+Fits writer reader sent taken port v = (v.pushes ≡ true → (port ≡ writer) × (v.sent ≡ sent))
+    × (v.pops ≡ true → (port ≡ reader) × (v.taken ≡ taken))
 
 abbrev pub Kept : List Push → List Log → Type 0
 Kept items views = (writer : ℕ) × (reader : ℕ) × (sent : List Push) × (taken : List Push) × (sent ≡ taken ++ items)

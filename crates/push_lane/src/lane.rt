@@ -1,5 +1,5 @@
 //! A lane: one bounded queue of messages.
-ghost use Rattle.std.specs.Prelude.{◌≡◌, ◌<◌, ◌≤◌, ◌^◌, ◌⊎◌, [], ◌∷◌, ◌++◌, List, length, IfOk, MatchResult, MatchOption};
+ghost use Rattle.std.specs.Prelude.{◌≡◌, ◌<◌, ◌≤◌, ◌^◌, ◌⊎◌, [], ◌∷◌, ◌++◌, List, length, IfOk, MatchBool, MatchResult, MatchOption};
 ghost use Rattle.hash_rows.specs.declared.shape.Push.{Push};
 ghost use Rattle.push_lane.specs.LaneHistory.{LaneHistory};
 ghost use Rattle.push_lane.specs.Rule.{StartsWith};
@@ -57,8 +57,26 @@ impl Lane {
         }
     }
 
+    // Whether the lane is full. Where it is, one try more is counted that the lane refused.
+    #[inline(always)]
+    fn refuses(&self, pass: &mut InPass) -> bool
+        requires { pass.old.id ≡ self.now.id }
+        ensures lane { pass.new.id ≡ pass.old.id }
+        ensures sent { pass.new.sent ≡ pass.old.sent }
+        ensures fulls { MatchBool result
+            ((pass.new.fulls ≡ one_more pass.old.fulls) × (self.now.capacity ≤ length pass.old.sent))
+            (pass.new.fulls ≡ pass.old.fulls) }
+    {
+        if self.queue.is_full_as::<Sends>(&mut pass.pass) {
+            pass.fulls = pass.fulls.saturating_add(1);
+            return true;
+        }
+        false
+    }
+
     /// Sends the message. Where it comes back, as many messages as the lane has room for were sent
     /// before, and one try more is counted that the lane refused.
+    #[inline(always)]
     pub fn push<R: Wait>(&self, rt: &R, pass: &mut InPass, message: Push) -> Result<(), Push>
         requires lane { pass.old.id ≡ self.now.id }
         requires room { length pass.old.sent < 2 ^ 32 }
@@ -68,6 +86,10 @@ impl Lane {
             (λ back. (back ≡ message) × (pass.new.sent ≡ pass.old.sent) × (pass.new.fulls ≡ one_more pass.old.fulls)
             × (self.now.capacity ≤ length pass.old.sent)) }
     {
+        // A full lane costs two loads.
+        if self.refuses(pass) {
+            return Err(message);
+        }
         let back = self.queue.push_as::<Sends, R>(rt, &mut pass.pass, message);
         if back.is_err() {
             pass.fulls = pass.fulls.saturating_add(1);

@@ -45,7 +45,8 @@ pub record Waits (r : Rules) (threshold : ℕ) (updates : List Update) (messages
   pub far : threshold ≤ r.distance (told_of r cell messages) (whole_of r cell updates)
 
 -- the sketch has counted these updates; these messages were sent and these updates refused
-pub record StandsFor {Held : Type 0} (stands : Held → ℤ → ℤ → Type 0) (r : Rules) (p : PrivateView Held) (updates : List Update) (messages : List Push) (refused : List ℕ) : Type 0 where
+pub record StandsFor {Held : Type 0} (stands : Held → ℤ → ℤ
+    → Type 0) (r : Rules) (p : PrivateView Held) (updates : List Update) (messages : List Push) (refused : List ℕ) : Type 0 where
   pub all_counted : p.counted ≡ length updates
   pub cells : (cell : ℕ) → StandsAt stands p.held cell (told_of r cell messages) (whole_of r cell updates)
   pub marks : (k : ℕ) → slice_index_or p.bits k false ≡ is_refused k refused

@@ -30,9 +30,18 @@ impl<K: Kind> Model for Counter<K> {
 
     ghost Value = { CounterView K.Held };
 
-    ghost view = { λ c. record { worker = c.worker; lane = c.lane; full = c.full; sketch = c.sketch; queue = c.queue.items; room = c.room; taken = c.taken } };
+    ghost view = { λ c. record {
+      worker = c.worker;
+      lane = c.lane;
+      full = c.full;
+      sketch = c.sketch;
+      queue = c.queue.items;
+      room = c.room;
+      taken = c.taken;
+    } };
 
-    ghost invariant = { λ c. (c.taken ≤ length c.queue.items) × (length c.queue.items ≤ c.room) × (c.room ≤ vec_capacity c.queue) × (c.sketch.due ≡ None) };
+    ghost invariant = { λ c. (c.taken ≤ length c.queue.items) × (length c.queue.items ≤ c.room) × (c.room ≤ vec_capacity c.queue)
+        × (c.sketch.due ≡ None) };
 }
 
 impl<K: Kind> Counter<K> {
@@ -114,7 +123,8 @@ impl<K: Kind> Counter<K> {
     /// Gives the oldest messages of the lane away, to be folded.
     pub fn take(&mut self, count: u32)
         requires { self.old.taken + count ≤ length self.old.queue }
-        ensures keeps { (t : Terms) (w : ℕ) (x : Worker) → Keeps K.stands t w self.old x → Keeps K.stands t w self.new (with_taken x count) }
+        ensures keeps { (t : Terms) (w : ℕ) (x : Worker) → Keeps K.stands t w self.old x
+            → Keeps K.stands t w self.new (with_taken x count) }
         ensures now { self.new ≡ record self.old { taken = self.old.taken + count } }
     {
         let _room = self.room;
@@ -154,6 +164,7 @@ impl<K: Kind> Counter<K> {
 
     /// Takes up an update: counts it, and sends a push that is due, or refuses it at a full lane.
     /// Where pushes wait, one that meets a full lane changes nothing.
+    #[inline(always)]
     pub fn count(&mut self, update: &Update) -> Reply
         requires sketch { self.old.sketch.counted < self.old.sketch.room }
         requires cell { update.now.cell < length self.old.sketch.held }
@@ -175,6 +186,7 @@ impl<K: Kind> Counter<K> {
     }
 
     // The same, where the lane has room.
+    #[inline(always)]
     fn count_with_room(&mut self, update: &Update) -> Reply
         requires lane { in_lane self.old < self.old.lane }
         requires sketch { self.old.sketch.counted < self.old.sketch.room }
@@ -209,6 +221,7 @@ impl<K: Kind> Counter<K> {
     }
 
     // The same, where the lane is full.
+    #[inline(always)]
     fn count_at_full_lane(&mut self, update: &Update) -> Reply
         requires lane { self.old.lane ≤ in_lane self.old }
         requires sketch { self.old.sketch.counted < self.old.sketch.room }
@@ -230,6 +243,7 @@ impl<K: Kind> Counter<K> {
     }
 
     // Whether the update makes a push due that has to wait.
+    #[inline(always)]
     fn waits_with(&self, update: &Update) -> bool
         requires sketch { self.now.sketch.counted < self.now.sketch.room }
         requires cell { update.now.cell < length self.now.sketch.held }
@@ -245,6 +259,7 @@ impl<K: Kind> Counter<K> {
     }
 
     // Counts the update, and refuses a push that is due.
+    #[inline(always)]
     fn count_or_refuse(&mut self, update: &Update) -> Reply
         requires lane { self.old.lane ≤ in_lane self.old }
         requires sketch { self.old.sketch.counted < self.old.sketch.room }

@@ -32,9 +32,18 @@ impl<K: Kind> Model for Private<K> {
 
     ghost coded = { private_code K.Held.code };
 
-    ghost view = { λ p. record { held = p.cells.held; threshold = p.threshold; room = p.room; counted = p.counted; due = p.cells.due; bits = p.bits } };
+    ghost view = { λ p. record {
+      held = p.cells.held;
+      threshold = p.threshold;
+      room = p.room;
+      counted = p.counted;
+      due = p.cells.due;
+      bits = p.bits;
+    } };
 
-    ghost invariant = { λ p. (length p.bits ≡ p.room) × (p.counted ≤ p.room) × MatchOption p.cells.due (p.room ≤ p.cells.left + p.counted) (λ cell. (cell < length p.cells.held) × (0 < p.counted) × (p.room < p.cells.left + p.counted)) };
+    ghost invariant = { λ p. (length p.bits ≡ p.room) × (p.counted ≤ p.room)
+        × MatchOption p.cells.due (p.room ≤ p.cells.left + p.counted) (λ cell. (cell < length p.cells.held) × (0 < p.counted)
+        × (p.room < p.cells.left + p.counted)) };
 }
 
 impl<K: Kind> Private<K> {
@@ -66,6 +75,7 @@ impl<K: Kind> Private<K> {
     }
 
     /// Counts an update. Answers the amount of the push that it makes due.
+    #[inline(always)]
     pub fn count(&mut self, cell: u32, value: i64) -> Option<i64>
         requires idle { self.old.due ≡ None }
         requires room { self.old.counted < self.old.room }
@@ -77,12 +87,13 @@ impl<K: Kind> Private<K> {
         ensures counted { self.new.counted ≡ self.old.counted + 1 }
         ensures stands { (packet : ℕ) (key : FlowKey) (updates : List Update) (messages : List Push) (refused : List ℕ)
             → StandsFor K.stands K.rules self.old updates messages refused
-            → StandsFor K.stands K.rules self.new (updates ++ record { packet = packet; key = key; cell = cell; value = value } ∷ []) messages refused }
+            → StandsFor K.stands K.rules self.new
+            (updates ++ record { packet = packet; key = key; cell = cell; value = value } ∷ []) messages refused }
         ensures threshold { self.new.threshold ≡ self.old.threshold }
         ensures room_stays { self.new.room ≡ self.old.room }
         ensures cells { length self.new.held ≡ length self.old.held }
     {
-        let held = K::counted(self.cells.value(cell), value);
+        let held = K::counted(self.cells.look_up(cell), value);
         self.counted += 1;
         let (distance, gap) = K::unsent(held);
         if distance >= self.threshold {
@@ -104,13 +115,15 @@ impl<K: Kind> Private<K> {
             → result ≡ nat_le self.now.threshold (K.rules.distance told (K.rules.join whole value)) }
         ensures stands { (updates : List Update) (messages : List Push) (refused : List ℕ)
             → StandsFor K.stands K.rules self.now updates messages refused
-            → result ≡ nat_le self.now.threshold (K.rules.distance (told_of K.rules cell messages) (K.rules.join (whole_of K.rules cell updates) value)) }
+            → result ≡ nat_le self.now.threshold (K.rules.distance (told_of K.rules cell messages)
+            (K.rules.join (whole_of K.rules cell updates) value)) }
     {
         let (distance, _) = K::unsent(K::counted(self.cells.value(cell), value));
         self.threshold <= distance
     }
 
     /// The due push was sent.
+    #[inline(always)]
     pub fn sent(&mut self)
         requires { IsSome self.old.due }
         ensures stands { (worker packet : ℕ) (key : FlowKey) (updates : List Update) (messages : List Push) (refused : List ℕ)
@@ -135,6 +148,7 @@ impl<K: Kind> Private<K> {
     }
 
     /// The due push was refused.
+    #[inline(always)]
     pub fn refused(&mut self)
         requires { IsSome self.old.due }
         ensures stands { (updates : List Update) (messages : List Push) (refused : List ℕ)
@@ -147,8 +161,7 @@ impl<K: Kind> Private<K> {
         ensures room { self.new.room ≡ self.old.room }
     {
         self.bits.set(self.counted - 1);
-        let held = self.cells.due();
-        self.cells.settle(held);
+        self.cells.keep_due();
     }
 
     /// What was counted of the cell and not told.

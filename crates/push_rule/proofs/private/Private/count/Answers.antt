@@ -1,6 +1,7 @@
-use Rattle.std.proofs.Common.{arith, refl, ap, sym, subst, ◌≡◌, ◌++◌, ◌∙◌, [], ◌∷◌, ℕ, ℤ, true, Option, None, MatchOption, w64, to_z, of_z}
+use Rattle.std.proofs.Common.{arith, refl, ap, sym, subst, ◌≡◌, ◌++◌, ◌∙◌, [], ◌∷◌, ℕ, ℤ, true, Option, None, MatchOption, slice_set, w64, to_z, of_z}
 use Rattle.std.proofs.lemmas.Int.{to_z-of_z}
 use Rattle.hash_rows.specs.declared.shape.Update.{Update}
+use Rattle.held_cells.specs.Held.{HeldView}
 use Rattle.push_history.specs.Pushes.{ArePushes}
 use Rattle.push_history.specs.Told.{told_of}
 use Rattle.push_history.specs.Whole.{whole_of}
@@ -19,13 +20,14 @@ returns-then-distance-self-clause-stands g c = λ packet key U S F closed.
     let value_is : to_z w64 (of_z w64 c.args.value) ≡ c.args.value = to_z-of_z w64 c.args.value c.ranges.value in
     let counts : (told whole : ℤ) → StandsAt stands old.held c.args.cell told whole → stands c.counted-held.result told (r.join whole c.args.value) =
     λ told whole at. subst (λ (v : ℤ). stands c.counted-held.result told (r.join whole v)) value_is
-    (c.counted-held.ensures told whole (subst (λ (v : ℤ). r.is_value v ≡ true) (sym value_is) c.requires.value) (at c.value.result c.value.ensures.value)) in
+    (c.counted-held.ensures told whole (subst (λ (v : ℤ). r.is_value v ≡ true) (sym value_is) c.requires.value) (at c.look_up.result c.look_up.ensures.value)) in
     let idle : c.self.inside.cells.due ≡ None = ap (λ (p : PrivateView g.row.K-Held.Denot). p.due) c.self.view_is ∙ c.requires.idle in
     let pushes : ArePushes r old.threshold U S F = subst (λ (o : Option ℕ). MatchOption o (ArePushes r old.threshold U S F) (Waits r old.threshold U S F)) idle was.pushes in
     let distance_is : r.distance (told_of r u.cell S) (whole_of r u.cell (U ++ u ∷ [])) ≡ c.unsent-distance.result.0 =
     ap (r.distance (told_of r u.cell S)) (whole_own r U u)
     ∙ sym (c.unsent-distance.ensures (told_of r u.cell S) (r.join (whole_of r u.cell U) u.value) (counts (told_of r u.cell S) (whole_of r u.cell U) (was.cells u.cell))).0 in
-    stands_counted stands r old _ u c.counted-held.result U S F was counts c.put_due.ensures.held refl refl
+    stands_counted stands r old _ u c.counted-held.result U S F was counts
+    (c.put_due.ensures.held ∙ ap (λ (v : HeldView g.row.K-Held.Denot). slice_set v.held c.args.cell c.counted-held.result) c.look_up.ensures.same) refl refl
     (rw c.put_due.ensures.due (record { before = U; last = u; parts = refl; its_cell = refl; pushes = pushes; far = omega (arith, c.if-distance-self.true, distance_is) }))
 
 pub returns-else-distance-self-clause-stands : goal.returns-else-distance-self-clause-stands
@@ -38,11 +40,12 @@ returns-else-distance-self-clause-stands g c = λ packet key U S F closed.
     let value_is : to_z w64 (of_z w64 c.args.value) ≡ c.args.value = to_z-of_z w64 c.args.value c.ranges.value in
     let counts : (told whole : ℤ) → StandsAt stands old.held c.args.cell told whole → stands c.counted-held.result told (r.join whole c.args.value) =
     λ told whole at. subst (λ (v : ℤ). stands c.counted-held.result told (r.join whole v)) value_is
-    (c.counted-held.ensures told whole (subst (λ (v : ℤ). r.is_value v ≡ true) (sym value_is) c.requires.value) (at c.value.result c.value.ensures.value)) in
+    (c.counted-held.ensures told whole (subst (λ (v : ℤ). r.is_value v ≡ true) (sym value_is) c.requires.value) (at c.look_up.result c.look_up.ensures.value)) in
     let idle : c.self.inside.cells.due ≡ None = ap (λ (p : PrivateView g.row.K-Held.Denot). p.due) c.self.view_is ∙ c.requires.idle in
     let pushes : ArePushes r old.threshold U S F = subst (λ (o : Option ℕ). MatchOption o (ArePushes r old.threshold U S F) (Waits r old.threshold U S F)) idle was.pushes in
     let distance_is : r.distance (told_of r u.cell S) (whole_of r u.cell (U ++ u ∷ [])) ≡ c.unsent-distance.result.0 =
     ap (r.distance (told_of r u.cell S)) (whole_own r U u)
     ∙ sym (c.unsent-distance.ensures (told_of r u.cell S) (r.join (whole_of r u.cell U) u.value) (counts (told_of r u.cell S) (whole_of r u.cell U) (was.cells u.cell))).0 in
-    stands_counted stands r old _ u c.counted-held.result U S F was counts c.set.ensures.held refl refl
+    stands_counted stands r old _ u c.counted-held.result U S F was counts
+    (c.set.ensures.held ∙ ap (λ (v : HeldView g.row.K-Held.Denot). slice_set v.held c.args.cell c.counted-held.result) c.look_up.ensures.same) refl refl
     (rw c.set.ensures.idle (pushes_counted r old.threshold U u S F pushes (omega (arith, c.if-distance-self.false, distance_is))))

@@ -1,5 +1,4 @@
-use Rattle.std.proofs.Common.{arith, refl, ap, sym, subst, ◌≡◌, ◌<◌, ◌≤◌, ◌+◌, ◌-◌, ◌∙◌, ℕ, length, Option, IsSome, MatchOption}
-use Rattle.held_cells.proofs.Holding.{set_back}
+use Rattle.std.proofs.Common.{arith, refl, ap, sym, subst, ◌≡◌, ◌<◌, ◌≤◌, ◌+◌, ◌-◌, ℕ, length, Option, IsSome, MatchOption}
 use Rattle.push_rule.specs.Stands.{PrivateView, StandsFor}
 use Rattle.push_rule.proofs.Standing.{due_cell, stands_refused}
 use Rattle.push_rule.proofs.private.Private.refused.Goals as goal
@@ -11,17 +10,9 @@ returns-clause-stands g c = λ U S F closed.
     let old : PrivateView g.row.K-Held.Denot = record { held = c.self.inside.cells.held; threshold = c.self.inside.threshold; room = c.self.inside.room; counted = c.self.inside.counted; due = c.self.inside.cells.due; bits = c.self.inside.bits } in
     let was : StandsFor stands r old U S F = subst (λ (p : PrivateView g.row.K-Held.Denot). StandsFor stands r p U S F) (sym c.self.view_is) closed in
     let cell = due_cell c.self.inside.cells.due (subst (λ (p : PrivateView g.row.K-Held.Denot). IsSome p.due) (sym c.self.view_is) c.requires) in
-    let at = c.due-held.ensures.value cell.0 cell.1 in
     let count : c.self.inside.counted ≡ c.args.self.now.counted = ap (λ (p : PrivateView g.row.K-Held.Denot). p.counted) c.self.view_is in
     let some = subst (λ (o : Option ℕ). MatchOption o (c.self.inside.room ≤ c.self.inside.cells.left + c.self.inside.counted)
     (λ cell. (cell < length c.self.inside.cells.held) × (0 < c.self.inside.counted) × (c.self.inside.room < c.self.inside.cells.left + c.self.inside.counted))) cell.1 c.self.invariant.2 in
     let within : c.self.inside.counted - 1 < length old.bits = omega (arith, c.self.invariant.0, c.self.invariant.1, some.1) in
     rw (sym count) (stands_refused stands r old _ cell.0 (c.self.inside.counted - 1) U S F was cell.1 refl within
-    (c.settle.ensures.held cell.0 cell.1 ∙ set_back c.self.inside.cells.held cell.0 c.due-held.result at.1)
-    refl refl c.settle.ensures.idle c.set.ensures)
-
-pub returns-clause-held : goal.returns-clause-held
-returns-clause-held g c =
-    let cell = due_cell c.self.inside.cells.due (subst (λ (p : PrivateView g.row.K-Held.Denot). IsSome p.due) (sym c.self.view_is) c.requires) in
-    let at = c.due-held.ensures.value cell.0 cell.1 in
-    c.settle.ensures.held cell.0 cell.1 ∙ set_back c.self.inside.cells.held cell.0 c.due-held.result at.1 ∙ ap (λ (p : PrivateView g.row.K-Held.Denot). p.held) c.self.view_is
+    c.keep_due.ensures.held refl refl c.keep_due.ensures.idle c.set.ensures)
