@@ -1,298 +1,290 @@
--- A worker's update, and a message that is folded.
-use Rattle.std.proofs.Common.{◌≡◌, ◌≢◌, ◌<◌, ◌≤◌, ◌+◌, ◌-◌, ◌==◌, ◌⊎◌, inl, inr, ℕ, ℤ, Bool, true, false, Some, List, [], ◌∷◌, ◌++◌, length, take, drop, set, get_or, slice_get, refl, sym, ◌∙◌, ap, subst, arith, length-append, length-set, suc, nat_lt, if◌then◌else◌, add-one}
-use Rattle.std.specs.Prelude.{min}
-use Rattle.std.proofs.lemmas.Bool.Decides.{nat_tests}
-use Rattle.std.proofs.lemmas.Bool.{cases_eq}
-use Rattle.std.proofs.Math.Seq.{drop-cons}
-use Rattle.std.proofs.lemmas.List.{take_more, take-append-le, get_or-set_same, get_or-set_other, length-drop}
-use Rattle.std.proofs.lemmas.List.Elements.{All-push}
-use Rattle.hash_rows.specs.declared.options.Full.{Full}
-use Rattle.hash_rows.specs.declared.options.Full.TheVariants.{Leave, Wait}
+-- The events of a core, one at a time.
+use Rattle.std.proofs.Common.{◌≡◌, ◌<◌, ◌≤◌, ◌==◌, inl, inr, ℕ, ℤ, true, false, Some, List, [], ◌∷◌, ◌++◌, length, take, set, get_or, slice_get, refl, sym, ◌∙◌, ap, subst, arith, length-set}
+use Rattle.std.specs.Prelude.{All, map}
+use Rattle.std.proofs.lemmas.List.{take_all, take-append-le, get_or-set_same, get_or-set_other}
+use Rattle.std.specs.Option.{option_map}
+use Rattle.std.proofs.lemmas.Option.{get_or_from_slice_get, slice_get-map, slice_get_within}
+use Rattle.listed.specs.Listed.{Listed}
 use Rattle.hash_rows.specs.declared.shape.Push.{Push}
-use Rattle.hash_rows.specs.Rules.{Rules}
+use Rattle.hash_rows.specs.declared.shape.Update.{Update as Entry}
+use Rattle.hash_rows.specs.Rules.{Rules, AreLaws}
+use Rattle.hash_rows.specs.declared.shape.Shape.{Shape}
 use Rattle.hash_rows.specs.Shapes.{size_of}
-use Rattle.push_history.specs.declared.event.Event.TheVariants.{Update, Take}
+use Rattle.hash_rows.specs.Tables.{TableView}
+use Rattle.push_history.specs.declared.event.Event.TheVariants.{Update, Take, Publish, Ask}
 use Rattle.push_history.specs.declared.event.Reply.{Reply}
-use Rattle.push_history.specs.declared.event.Reply.TheVariants.{Took, Empty, Over, Counted}
-use Rattle.push_history.specs.Front.{front_of, messages_of, message_at}
-use Rattle.push_history.specs.LagRun.{Terms, State, Worker, lag_step, take_step, count_step, pushes, meets_full, message_of, worker_in, fresh_worker, updates_by}
-use Rattle.push_history.specs.Pushes.{distance_at}
-use Rattle.push_history.specs.LiveHeavy.{live_keys, missed_keys}
-use Rattle.push_rule.specs.Stands.{PrivateView}
-use Rattle.lag_core.specs.Lanes.{Queue}
-use Rattle.lag_core.specs.Sights.{IsSightOf, with_message}
-use Rattle.lag_core.specs.Workers.{terms_of, IsWorkerAt}
-use Rattle.lag_core.specs.Lags.{Core, IsCoreAt, Steps, with_note, workers_of}
-use Rattle.push_history.proofs.MoreMessages.{cells_more, front_more, upto_more}
-use Rattle.lag_core.proofs.Heavies.{heavy_more, note_leaves, Leaves}
-use Rattle.push_history.proofs.Lists.{filter_push_no, filter_push_yes}
-use Rattle.lag_core.proofs.Lists.{slot_set}
+use Rattle.push_history.specs.declared.event.Reply.TheVariants.{Published, Answered, Empty, Took}
+use Rattle.push_history.specs.Front.{front_of, message_at, uptos_of}
+use Rattle.push_history.specs.LagRun.{State, Worker, count_step, fresh_worker, lag_step, take_step, updates_by, worker_in}
+use Rattle.push_history.specs.LawfulRun.{IsLawfulState}
+use Rattle.push_history.specs.OwnSteps.{with_taken}
+use Rattle.push_history.proofs.Fitting.{folded_fit}
+use Rattle.push_history.proofs.RunLaws.{step_lawful}
+use Rattle.push_history.specs.Shown.{told_cells}
+use Rattle.push_history.specs.Told.{told_of}
+use Rattle.push_history.proofs.MoreMessages.{front_len}
+use Rattle.push_history.proofs.Runs.{same_worker}
+use Rattle.std.proofs.lemmas.List.FromFn.{length-map-range_with_len}
+use Rattle.live_state.specs.declared.layout.Layout.{Layout}
+use Rattle.live_state.specs.Fold.{Fit, StateView, absorbed, layout_of}
+use Rattle.live_state.specs.Shows.{Shows}
+use Rattle.live_state.proofs.Layouts.{absorbed_layout}
+use Rattle.lag_core.specs.declared.shown.ShownState.{ShownState}
+use Rattle.lag_core.specs.declared.worker.LagWorker.{LagWorker}
+use Rattle.lag_core.specs.Workers.{CanTakeUp, IsReadyToCount, IsWorkerAt, terms_of}
+use Rattle.lag_core.specs.Lags.{Core, IsCoreAt, IsFitForRun, IsShownOf, Steps, shape_of, shown_messages, workers_of}
+use Rattle.lag_core.proofs.Counting.{queue_few, sent_counted}
+use Rattle.lag_core.proofs.Folding.{all_fit, folded_few, folded_on, shows}
+use Rattle.lag_core.proofs.Slots.{slot_set}
 
--- an update leaves what was taken
-count_keeps : (t : Terms) (w : ℕ) (s : Worker) → s.taken ≤ length s.sent → ((count_step t w s).0.taken ≡ s.taken) × (take s.taken (count_step t w s).0.sent ≡ take s.taken s.sent)
-unfolding count_step
-count_keeps t w s le =
-    by (s.counted == length (updates_by t w)) (nat_lt (distance_at t.rules (updates_by t w) s.sent s.counted) t.threshold) (nat_lt (length s.sent - s.taken) t.capacity) t.full
-    (message_of t.rules w (updates_by t w) s.sent s.counted)
-  where
-    by : (a b c : Bool) (f : Full) (m : Push)
-        → let z = if a then (s, Over) else if b then (record { counted = s.counted + 1; sent = s.sent; refused = s.refused; taken = s.taken }, Counted) else if c then pushes m s else meets_full f s in
-        (z.0.taken ≡ s.taken) × (take s.taken z.0.sent ≡ take s.taken s.sent)
-    by true b c f m = (refl, refl)
-    by false true c f m = (refl, refl)
-    by false false true f m = (refl, take-append-le s.taken s.sent (m ∷ []) le)
-    by false false false Leave m = (refl, refl)
-    by false false false Wait m = (refl, refl)
+-- the updates of a worker
+pub row_at : (rows : List (Listed Entry)) (w : ℕ) (row : Listed Entry) → slice_get rows w ≡ Some row → get_or (map (λ (l : Listed Entry). l.items) rows) w [] ≡ row.items
+row_at rows w row at = get_or_from_slice_get (map (λ (l : Listed Entry). l.items) rows) w row.items [] (slice_get-map (λ (l : Listed Entry). l.items) rows w ∙ ap (option_map (λ (l : Listed Entry). l.items)) at)
 
-module _ {H : Type 0} (stands : H → ℤ → ℤ → Type 0) (r : Rules) (v : Core H) (w : ℕ) (p : PrivateView H) (lane : Queue)
-    (within : w < workers_of v) (sketch_at : slice_get v.sketches w ≡ Some p) (lane_at : slice_get v.lanes w ≡ Some lane) where
-  -- another worker is as it was
-  other : (s : State) (x : Worker) (k : ℕ) → w ≢ k → get_or (set s.workers w x) k fresh_worker ≡ worker_in s k
-  other s x k ne = get_or-set_other s.workers w k x fresh_worker (λ e. ne (sym e))
+-- a message is taken
+took : (s : State) (w : ℕ) (m : Push) → (worker_in s w).taken < length (worker_in s w).sent → message_at (worker_in s w).sent (worker_in s w).taken ≡ m
+    → take_step s w ≡ (record { workers = set s.workers w (with_taken (worker_in s w) 1); folded = s.folded ++ m ∷ []; shown = s.shown; seen = s.seen }, Took m.amount)
+unfolding take_step
+took s w m some is =
+    let x = worker_in s w in
+    let test : (x.taken == length x.sent) ≡ false = grind arith in
+    rw test (ap (λ (z : Push). (record { workers = set s.workers w (with_taken x 1); folded = s.folded ++ z ∷ []; shown = s.shown; seen = s.seen }, Took z.amount)) is)
 
-  itself : (s : State) (x : Worker) → length s.workers ≡ workers_of v → get_or (set s.workers w x) w fresh_worker ≡ x
-  itself s x same = get_or-set_same s.workers w x fresh_worker (omega (arith, within, same))
+module _ {K H : Type 0} (stands : H → ℤ → ℤ → Type 0) (r : Rules) (v : Core K H) where
+  -- what a state of the run says of its messages
+  pub state_shows : (s : State) → IsCoreAt stands r v s → Shows r (layout_of v.fold) s.folded v.fold
+  state_shows s h = shows r v.fold s.folded h.fold (folded_few (terms_of r v.limits) s h.lawful h.fit.few h.fit.few_updates)
 
-  pub update_steps : (q : PrivateView H) (lane' : Queue) (reply : Reply) → length q.held ≡ length p.held
-      → ((x : Worker) → IsWorkerAt stands (terms_of r v.limits) w p lane x
-      → IsWorkerAt stands (terms_of r v.limits) w q lane' (count_step (terms_of r v.limits) w x).0 × (reply ≡ (count_step (terms_of r v.limits) w x).1))
-      → Steps stands r v (record v { sketches = set v.sketches w q; lanes = set v.lanes w lane' }) (Update w) reply
-  unfolding lag_step
-  update_steps q lane' reply same_held works = record {
-    limits = refl;
-    readers = refl;
-    same_shape = refl;
-    limit = refl;
-    least = refl;
-    step = λ s h.
-        let t = terms_of r v.limits in
-        let x = worker_in s w in
-        let y = (count_step t w x).0 in
-        let its = h.each w p lane sketch_at lane_at in
-        let done = works x its in
-        let kept = count_keeps t w x its.taken in (
-          record {
-            shape = h.shape;
-            workers = length-set s.workers w y ∙ h.workers;
-            sketches = length-set v.sketches w q ∙ h.sketches;
-            lanes = length-set v.lanes w lane' ∙ h.lanes;
-            each = λ k a b at_a at_b. elim (cases_eq w k) [
-              | inl e ↦ here s h y done.0 k a b e (slot_set v.sketches w k q a at_a) (slot_set v.lanes w k lane' b at_b)
-              | inr ne ↦ there s h y k a b ne (slot_set v.sketches w k q a at_a) (slot_set v.lanes w k lane' b at_b)
-            ];
-            cells = λ k a at. elim (slot_set v.sketches w k q a at) [
-              | inl e ↦ ap (λ (z : PrivateView H). length z.held) (sym e.1) ∙ same_held ∙ h.cells w p sketch_at
-              | inr e ↦ h.cells k a e.1
-            ];
-            fold = h.fold;
-            shown = h.shown;
-            shown_within = h.shown_within;
-            own = λ k below. elim (cases_eq w k) [
-              | inl e ↦ subst (λ (j : ℕ). messages_of j s.folded ≡ take (get_or (set s.workers w y) j fresh_worker).taken (get_or (set s.workers w y) j fresh_worker).sent) e
-                  (h.own w within ∙ sym kept.1 ∙ ap (λ (n : ℕ). take n y.sent) (sym kept.0)
-                  ∙ ap (λ (z : Worker). take z.taken z.sent) (sym (itself s y h.workers)))
-              | inr ne ↦ h.own k below ∙ ap (λ (z : Worker). take z.taken z.sent) (sym (other s y k ne))
-            ];
-            sources = h.sources;
-            amounts = h.amounts;
-            heavy = h.heavy;
-            live = h.live;
-            live_within = h.live_within;
-            missed = h.missed;
-            readers = h.readers;
-            seen = h.seen;
-          },
-          done.1,
-        );
-  }
-    where
-      here : (s : State) → IsCoreAt stands r v s → (y : Worker) → IsWorkerAt stands (terms_of r v.limits) w q lane' y → (k : ℕ) (a : PrivateView H) (b : Queue) → w ≡ k
-          → ((w ≡ k) × (q ≡ a)) ⊎ ((w ≢ k) × (slice_get v.sketches k ≡ Some a)) → ((w ≡ k) × (lane' ≡ b)) ⊎ ((w ≢ k) × (slice_get v.lanes k ≡ Some b))
-          → IsWorkerAt stands (terms_of r v.limits) k a b (get_or (set s.workers w y) k fresh_worker)
-      here s h y done k a b e (inl ea) (inl eb) =
-          subst (λ (j : ℕ). IsWorkerAt stands (terms_of r v.limits) j a b (get_or (set s.workers w y) j fresh_worker)) e
-          (subst (λ (z : Worker). IsWorkerAt stands (terms_of r v.limits) w a b z) (sym (itself s y h.workers))
-          (subst (λ (z : Queue). IsWorkerAt stands (terms_of r v.limits) w a z y) eb.1 (subst (λ (z : PrivateView H). IsWorkerAt stands (terms_of r v.limits) w z lane' y) ea.1 done)))
-      here s h y done k a b e (inr ea) eb = absurd (ea.0 e)
-      here s h y done k a b e (inl ea) (inr eb) = absurd (eb.0 e)
+  -- all that a run folds is for workers and cells that there are, and tells values
+  pub folded_parts : AreLaws r → IsFitForRun r v → (s : State) → IsLawfulState (terms_of r v.limits) s
+      → All (λ m. (m.worker < workers_of v) × (m.cell < size_of (shape_of v)) × (r.is_value m.amount ≡ true)) s.folded
+  folded_parts laws fit s lawful = folded_fit (terms_of r v.limits) laws (size_of (shape_of v)) fit.updates s lawful
 
-      there : (s : State) → IsCoreAt stands r v s → (y : Worker) → (k : ℕ) (a : PrivateView H) (b : Queue) → w ≢ k
-          → ((w ≡ k) × (q ≡ a)) ⊎ ((w ≢ k) × (slice_get v.sketches k ≡ Some a)) → ((w ≡ k) × (lane' ≡ b)) ⊎ ((w ≢ k) × (slice_get v.lanes k ≡ Some b))
-          → IsWorkerAt stands (terms_of r v.limits) k a b (get_or (set s.workers w y) k fresh_worker)
-      there s h y k a b ne (inr ea) (inr eb) = subst (λ (z : Worker). IsWorkerAt stands (terms_of r v.limits) k a b z) (sym (other s y k ne)) (h.each k a b ea.1 eb.1)
-      there s h y k a b ne (inl ea) eb = absurd (ne ea.0)
-      there s h y k a b ne (inr ea) (inl eb) = absurd (ne eb.0)
+  fits_in : AreLaws r → IsFitForRun r v → (s : State) → IsLawfulState (terms_of r v.limits) s → Fit r (layout_of v.fold) s.folded
+  fits_in laws fit s lawful = all_fit r (layout_of v.fold) s.folded (λ k e lt. let m = folded_parts laws fit s lawful k e lt in (omega (arith, m.0, fit.fronts), m.1, m.2))
 
-  -- the lane is empty
-  pub take_none : lane.messages ≡ [] → Steps stands r v v (Take w) Empty
-  unfolding lag_step take_step
-  take_none none = record {
-    limits = refl;
-    readers = refl;
-    same_shape = refl;
-    limit = refl;
-    least = refl;
-    step = λ s h.
-        let x = worker_in s w in
-        let its = h.each w p lane sketch_at lane_at in
-        let all : x.taken ≡ length x.sent = omega (arith, ap (λ (ms : List Push). length ms) (sym none ∙ its.queued), length-drop x.taken x.sent, its.taken) in
-        let test : (x.taken == length x.sent) ≡ true = grind (arith, nat_tests) in
-        rw test (h, refl);
-  }
+  -- how long the lists are that are shown
+  pub front_long : (s : State) → IsCoreAt stands r v s → length v.shown.front.items ≡ length v.fold.front
+  front_long s h = ap length h.shown.front ∙ front_len (length v.fold.front) (shown_messages s)
 
-  -- a message is taken out of the lane
-  module _ (m : Push) (lane' : Queue) (queue : lane.messages ≡ m ∷ lane'.messages) (same_capacity : lane'.capacity ≡ lane.capacity) where
-    abbrev pub folded_core : Core H
-    folded_core = record v {
-      lanes = set v.lanes w lane';
-      fold = with_message r.join v.fold m;
-      heavy = with_note r v.shape (with_message r.join v.fold m).cells v.heavy m;
+  uptos_long : (workers : ℕ) (messages : List Push) → length (uptos_of workers messages) ≡ workers
+  unfolding uptos_of
+  uptos_long workers messages = length-map-range_with_len _ 0 workers
+
+  pub upto_long : (s : State) → IsCoreAt stands r v s → length v.shown.upto.items ≡ length v.fold.front
+  upto_long s h = ap length h.shown.upto ∙ uptos_long (length v.fold.front) (shown_messages s)
+
+  pub folded_upto_long : (s : State) → IsCoreAt stands r v s → length v.fold.upto ≡ length v.fold.front
+  folded_upto_long s h = ap length (state_shows s h).upto ∙ uptos_long (length v.fold.front) s.folded
+
+  cells_long : (shape : Shape) (messages : List Push) → length (told_cells r shape messages) ≡ size_of shape
+  unfolding told_cells
+  cells_long shape messages = length-map-range_with_len (λ cell. told_of r cell messages) 0 (size_of shape)
+
+  pub folded_cells_long : (s : State) → IsCoreAt stands r v s → length v.fold.table.cells ≡ size_of (shape_of v)
+  folded_cells_long s h = ap length (state_shows s h).cells ∙ cells_long (shape_of v) s.folded
+
+  pub shown_cells_long : (s : State) → IsCoreAt stands r v s → length v.shown.table.cells ≡ size_of (shape_of v)
+  shown_cells_long s h = ap (λ (z : TableView). length z.cells) h.shown.table ∙ cells_long (shape_of v) (shown_messages s)
+
+  -- the front that a reader has seen is as long as that which is shown
+  pub seen_long : (s : State) → IsCoreAt stands r v s → (q : ℕ) (front : Listed ℕ) → slice_get v.seen q ≡ Some front → length front.items ≡ length v.fold.front
+  seen_long s h q front at = ap length (h.seen q front at) ∙ front_len (workers_of v) _ ∙ sym h.fit.fronts
+
+  -- what a reader has seen is shown
+  pub seen_shown : (s : State) → IsCoreAt stands r v s → (q : ℕ) → q < length v.seen → get_or s.seen q 0 ≤ s.shown
+  seen_shown s h q below = h.lawful.seen q 0 (omega (arith, below, h.readers))
+
+  -- a worker can take up its updates
+  pub can_take_up : (s : State) → IsCoreAt stands r v s → (w : ℕ) (d : LagWorker K H) → w < workers_of v → slice_get v.workers w ≡ Some d
+      → (us : List Entry) → updates_by (terms_of r v.limits) w ≡ us → CanTakeUp r us d
+  can_take_up s h w d below at us is =
+      let t = terms_of r v.limits in
+      let its = h.each w d at in
+      let fit = subst (λ (l : List Entry). All (λ u. (u.cell < size_of (shape_of v)) × (r.is_value u.value ≡ true)) l) is (h.fit.updates w below) in
+      record {
+        ready = subst (λ (l : List Entry). IsReadyToCount (length l) d) is its.ready;
+        few = queue_few stands t w d (worker_in s w) its (sent_counted t w (worker_in s w) below (h.lawful.each w below));
+        cells = λ k e lt. omega (arith, (fit k e lt).0, h.fit.cells w d at);
+        values = λ k e lt. (fit k e lt).1;
+      }
+
+  module _ (w : ℕ) (d e : LagWorker K H) (below : w < workers_of v) (at : slice_get v.workers w ≡ Some d) (same_cells : length e.counter.sketch.held ≡ length d.counter.sketch.held) where
+    -- the workers with one in place of another
+    each_after : (s : State) → IsCoreAt stands r v s → (y : Worker) → IsWorkerAt stands (terms_of r v.limits) w e y
+        → (k : ℕ) (a : LagWorker K H) → slice_get (set v.workers w e) k ≡ Some a → IsWorkerAt stands (terms_of r v.limits) k a (get_or (set s.workers w y) k fresh_worker)
+    each_after s h y now k a at_a = elim (slot_set v.workers w k e a at_a) [
+      | inl same ↦
+          let itself : get_or (set s.workers w y) w fresh_worker ≡ y = get_or-set_same s.workers w y fresh_worker (omega (arith, below, h.lawful.workers)) in
+          subst (λ (j : ℕ). IsWorkerAt stands (terms_of r v.limits) j a (get_or (set s.workers w y) j fresh_worker)) same.0
+          (subst (λ (z : Worker). IsWorkerAt stands (terms_of r v.limits) w a z) (sym itself) (subst (λ (z : LagWorker K H). IsWorkerAt stands (terms_of r v.limits) w z y) same.1 now))
+      | inr other ↦ subst (λ (z : Worker). IsWorkerAt stands (terms_of r v.limits) k a z) (sym (get_or-set_other s.workers w k y fresh_worker (λ i. other.0 (sym i)))) (h.each k a other.1)
+    ]
+
+    fit_after : IsFitForRun r v → (z : Shape) (f : StateView) → layout_of f ≡ layout_of v.fold → IsFitForRun r (record v { shape = z; workers = set v.workers w e; fold = f })
+    fit_after fit z f same = record {
+      workers = length-set v.workers w e ∙ fit.workers;
+      few = fit.few;
+      few_updates = fit.few_updates;
+      updates = subst (λ (l : Layout). (k : ℕ) → k < workers_of v → All (λ u. (u.cell < size_of l.shape) × (r.is_value u.value ≡ true)) (updates_by (terms_of r v.limits) k)) (sym same) fit.updates;
+      cells = λ k a at_a. elim (slot_set v.workers w k e a at_a) [
+        | inl here ↦ ap (λ (z : LagWorker K H). length z.counter.sketch.held) (sym here.1) ∙ same_cells ∙ fit.cells w d at ∙ ap (λ (l : Layout). size_of l.shape) (sym same)
+        | inr there ↦ fit.cells k a there.1 ∙ ap (λ (l : Layout). size_of l.shape) (sym same)
+      ];
+      fronts = ap (λ (l : Layout). l.workers) same ∙ fit.fronts;
     }
 
-    abbrev after_take : State → State
-    after_take s = record {
-      workers = set s.workers w (record { counted = (worker_in s w).counted; sent = (worker_in s w).sent; refused = (worker_in s w).refused; taken = (worker_in s w).taken + 1 });
-      folded = s.folded ++ m ∷ [];
-      shown = s.shown;
-      seen = s.seen;
-    }
-
-    module _ (s : State) (h : IsCoreAt stands r v s) where
-      its_worker : IsWorkerAt stands (terms_of r v.limits) w p lane (worker_in s w)
-      its_worker = h.each w p lane sketch_at lane_at
-
-      left : (worker_in s w).taken < length (worker_in s w).sent
-      left = omega (arith, ap (λ (ms : List Push). length ms) (sym queue ∙ its_worker.queued), length-drop (worker_in s w).taken (worker_in s w).sent)
-
-      parts : m ∷ lane'.messages ≡ message_at (worker_in s w).sent (worker_in s w).taken ∷ drop (suc (worker_in s w).taken) (worker_in s w).sent
-      parts = sym queue ∙ its_worker.queued ∙ drop-cons (worker_in s w).sent (worker_in s w).taken _ left
-
-      is_oldest : message_at (worker_in s w).sent (worker_in s w).taken ≡ m
-      is_oldest = let e = parts in cc
-
-      rest_is : lane'.messages ≡ drop ((worker_in s w).taken + 1) (worker_in s w).sent
-      rest_is = let e = parts in rw (add-one) cc
-
-      pub names_worker : m.worker ≡ w
-      names_worker = ap (λ (x : Push). x.worker) (sym is_oldest) ∙ (its_worker.named (worker_in s w).taken _ left).its_worker
-
-      pub in_shape : m.cell < size_of v.shape
-      in_shape =
-          let below : m.cell < length p.held = subst (λ (x : Push). x.cell < length p.held) is_oldest (its_worker.cells (worker_in s w).taken _ left) in
-          omega (arith, below, h.cells w p sketch_at)
-
-      pub is_amount : r.is_value m.amount ≡ true
-      is_amount = subst (λ (x : Push). r.is_value x.amount ≡ true) is_oldest (its_worker.amounts (worker_in s w).taken _ left)
-
-      pub from_worker : m.worker < workers_of v
-      from_worker = omega (arith, names_worker, within)
-
-      -- the messages before are as they were
-      front_stays : (n : ℕ) → n ≤ length s.folded → take n (s.folded ++ m ∷ []) ≡ take n s.folded
-      front_stays n le = take-append-le n s.folded (m ∷ []) le
-
-      taken_more : Worker
-      taken_more = record { counted = (worker_in s w).counted; sent = (worker_in s w).sent; refused = (worker_in s w).refused; taken = (worker_in s w).taken + 1 }
-
-      one_taken : IsWorkerAt stands (terms_of r v.limits) w p lane' (record { counted = (worker_in s w).counted; sent = (worker_in s w).sent; refused = (worker_in s w).refused; taken = (worker_in s w).taken + 1 })
-      one_taken = record {
-        within = its_worker.within;
-        sketch = its_worker.sketch;
-        can_count = its_worker.can_count;
-        threshold = its_worker.threshold;
-        capacity = same_capacity ∙ its_worker.capacity;
-        taken = omega (arith, left);
-        few = its_worker.few;
-        queued = rest_is;
-        named = its_worker.named;
-        amounts = its_worker.amounts;
-        cells = its_worker.cells;
-        numbers = its_worker.numbers;
-        full_lane = its_worker.full_lane;
-        waiting = its_worker.waiting;
-      }
-
-      sight_more : IsSightOf r v.shape (workers_of v) (with_message r.join v.fold m) (s.folded ++ m ∷ [])
-      sight_more = record {
-        cells = cells_more r v.shape s.folded m v.fold.cells h.fold.cells in_shape;
-        front = front_more (workers_of v) s.folded m v.fold.front h.fold.front from_worker;
-        upto = upto_more (workers_of v) s.folded m v.fold.upto h.fold.upto from_worker;
-      }
-
-      leaves : Leaves v.heavy (with_note r v.shape (with_message r.join v.fold m).cells v.heavy m)
-      leaves = note_leaves r v.shape (with_message r.join v.fold m).cells v.heavy m
-
-      own_more : (k : ℕ) → k < workers_of v → (b : Bool) → (m.worker == k) ≡ b
-          → messages_of k (s.folded ++ m ∷ []) ≡ take (get_or (after_take s).workers k fresh_worker).taken (get_or (after_take s).workers k fresh_worker).sent
-      own_more k below true is =
-          let same : w ≡ k = let g : m.worker ≡ k = grind (arith, nat_tests) in sym names_worker ∙ g in
-          let y : Worker = record { counted = (worker_in s w).counted; sent = (worker_in s w).sent; refused = (worker_in s w).refused; taken = (worker_in s w).taken + 1 } in
-          let grown : messages_of k s.folded ++ m ∷ [] ≡ take ((worker_in s w).taken + 1) (worker_in s w).sent =
-          ap (λ (ms : List Push). ms ++ m ∷ []) (subst (λ (j : ℕ). messages_of j s.folded ≡ take (worker_in s w).taken (worker_in s w).sent) same (h.own w within))
-          ∙ ap (λ (x : Push). take (worker_in s w).taken (worker_in s w).sent ++ x ∷ []) (sym is_oldest)
-          ∙ sym (take_more (worker_in s w).sent (worker_in s w).taken _ left) in
-          filter_push_yes (λ (x : Push). x.worker == k) s.folded m is ∙ grown
-          ∙ ap (λ (z : Worker). take z.taken z.sent) (sym (itself s y h.workers) ∙ ap (λ (j : ℕ). get_or (set s.workers w y) j fresh_worker) same)
-      own_more k below false is =
-          let apart : w ≢ k = λ e. let g : m.worker ≡ k = names_worker ∙ e in absurd (grind (arith, nat_tests)) in
-          let y : Worker = record { counted = (worker_in s w).counted; sent = (worker_in s w).sent; refused = (worker_in s w).refused; taken = (worker_in s w).taken + 1 } in
-          filter_push_no (λ (x : Push). x.worker == k) s.folded m is ∙ h.own k below ∙ ap (λ (z : Worker). take z.taken z.sent) (sym (other s y k apart))
-
-      each_after : (k : ℕ) (a : PrivateView H) (b : Queue) → slice_get v.sketches k ≡ Some a → ((w ≡ k) × (lane' ≡ b)) ⊎ ((w ≢ k) × (slice_get v.lanes k ≡ Some b))
-          → IsWorkerAt stands (terms_of r v.limits) k a b (get_or (after_take s).workers k fresh_worker)
-      each_after k a b at (inl e) =
-          let y : Worker = record { counted = (worker_in s w).counted; sent = (worker_in s w).sent; refused = (worker_in s w).refused; taken = (worker_in s w).taken + 1 } in
-          let same_sketch : p ≡ a = let there : slice_get v.sketches w ≡ Some a = subst (λ (j : ℕ). slice_get v.sketches j ≡ Some a) (sym e.0) at in cc in
-          subst (λ (j : ℕ). IsWorkerAt stands (terms_of r v.limits) j a b (get_or (set s.workers w y) j fresh_worker)) e.0
-          (subst (λ (z : Worker). IsWorkerAt stands (terms_of r v.limits) w a b z) (sym (itself s y h.workers))
-          (subst (λ (z : Queue). IsWorkerAt stands (terms_of r v.limits) w a z y) e.1 (subst (λ (z : PrivateView H). IsWorkerAt stands (terms_of r v.limits) w z lane' y) same_sketch one_taken)))
-      each_after k a b at (inr e) =
-          let y : Worker = record { counted = (worker_in s w).counted; sent = (worker_in s w).sent; refused = (worker_in s w).refused; taken = (worker_in s w).taken + 1 } in
-          subst (λ (z : Worker). IsWorkerAt stands (terms_of r v.limits) k a b z) (sym (other s y k e.0)) (h.each k a b at e.1)
-
-      core_after : IsCoreAt stands r folded_core (after_take s)
-      core_after = record {
-        shape = h.shape;
-        workers = length-set s.workers w _ ∙ h.workers;
-        sketches = h.sketches;
-        lanes = length-set v.lanes w lane' ∙ h.lanes;
-        each = λ k a b at_a at_b. each_after k a b at_a (slot_set v.lanes w k lane' b at_b);
-        cells = h.cells;
-        fold = sight_more;
-        shown = subst (IsSightOf r v.shape (workers_of v) v.shown) (sym (front_stays s.shown h.shown_within)) h.shown;
-        shown_within = omega (arith, h.shown_within, length-append s.folded (m ∷ []));
-        own = λ k below. own_more k below (m.worker == k) refl;
-        sources = All-push (λ x. x.worker < workers_of v) s.folded m h.sources from_worker;
-        amounts = All-push (λ x. r.is_value x.amount ≡ true) s.folded m h.amounts is_amount;
-        heavy = heavy_more r v.shape (with_message r.join v.fold m).cells v.heavy s.folded m sight_more.cells h.heavy;
-        live = ap (take v.live) leaves.keys ∙ take-append-le v.live v.heavy.keys leaves.added h.live_within ∙ h.live
-            ∙ (λ i. live_keys r v.shape (sym leaves.limit i) (sym leaves.least i) (sym (front_stays s.shown h.shown_within) i));
-        live_within = omega (arith, h.live_within, ap (λ (ks : List _). length ks) leaves.keys, length-append v.heavy.keys leaves.added);
-        missed = h.missed
-            ∙ (λ i. min (missed_keys r v.shape (sym leaves.limit i) (sym leaves.least i) (sym (front_stays s.shown h.shown_within) i)) 18446744073709551615);
-        readers = h.readers;
-        seen = λ q front at. let old = h.seen q front at in
-            (old.0 ∙ ap (front_of (workers_of v)) (sym (front_stays (get_or s.seen q 0) (omega (arith, old.1, h.shown_within)))), old.1);
-      }
-
-    pub take_one : Steps stands r v folded_core (Take w) (Took m.amount)
-    unfolding lag_step take_step
-    take_one = record {
+    pub update_steps : (reply : Reply) → ((x : Worker) → IsWorkerAt stands (terms_of r v.limits) w d x
+        → IsWorkerAt stands (terms_of r v.limits) w e (count_step (terms_of r v.limits) w x).0 × (reply ≡ (count_step (terms_of r v.limits) w x).1))
+        → Steps stands r v (record v { workers = set v.workers w e }) (Update w) reply
+    unfolding lag_step
+    update_steps reply works = record {
       limits = refl;
       readers = refl;
       same_shape = refl;
-      limit = (note_leaves r v.shape (with_message r.join v.fold m).cells v.heavy m).limit;
-      least = (note_leaves r v.shape (with_message r.join v.fold m).cells v.heavy m).least;
+      layout = refl;
+      step = λ s h.
+          let now = works (worker_in s w) (h.each w d at) in (
+            record {
+              fit = fit_after h.fit v.shape v.fold refl;
+              lawful = step_lawful (terms_of r v.limits) s (Update w) h.lawful;
+              each = each_after s h (count_step (terms_of r v.limits) w (worker_in s w)).0 now.0;
+              fold = h.fold;
+              shown = h.shown;
+              readers = h.readers;
+              seen = h.seen;
+            },
+            now.1,
+          );
+    }
+
+    pub take_none : ((x : Worker) → IsWorkerAt stands (terms_of r v.limits) w d x → (x.taken ≡ length x.sent) × IsWorkerAt stands (terms_of r v.limits) w e x)
+        → Steps stands r v (record v { workers = set v.workers w e }) (Take w) Empty
+    unfolding lag_step take_step
+    take_none works = record {
+      limits = refl;
+      readers = refl;
+      same_shape = refl;
+      layout = refl;
       step = λ s h.
           let x = worker_in s w in
-          let oldest = is_oldest s h in
-          let some = left s h in
-          let test : (x.taken == length x.sent) ≡ false = grind (arith, nat_tests) in
-          let after = core_after s h in
-          rw test (subst (λ (z : Push). IsCoreAt stands r folded_core (record {
-            workers = set s.workers w (record { counted = x.counted; sent = x.sent; refused = x.refused; taken = x.taken + 1 });
-            folded = s.folded ++ z ∷ [];
-            shown = s.shown;
-            seen = s.seen;
-          }) × (Took m.amount ≡ Took z.amount)) (sym oldest) (after, refl));
+          let now = works x (h.each w d at) in
+          let all = now.0 in
+          let test : (x.taken == length x.sent) ≡ true = grind arith in
+          rw test (
+            record {
+              fit = fit_after h.fit v.shape v.fold refl;
+              lawful = h.lawful;
+              each = λ k a at_a. subst (λ (z : State). IsWorkerAt stands (terms_of r v.limits) k a (worker_in z k)) (same_worker s w) (each_after s h x now.1 k a at_a);
+              fold = h.fold;
+              shown = h.shown;
+              readers = h.readers;
+              seen = h.seen;
+            },
+            refl,
+          );
     }
+
+    module _ (m : Push) where
+      -- the state with the message folded
+      abbrev with_folded : State → State
+      with_folded s = record { workers = set s.workers w (with_taken (worker_in s w) 1); folded = s.folded ++ m ∷ []; shown = s.shown; seen = s.seen }
+
+      core_folded : AreLaws r → (s : State) → IsCoreAt stands r v s → IsLawfulState (terms_of r v.limits) (with_folded s) → IsWorkerAt stands (terms_of r v.limits) w e (with_taken (worker_in s w) 1)
+          → IsCoreAt stands r (record v { shape = (absorbed r v.fold m).table.shape; workers = set v.workers w e; fold = absorbed r v.fold m }) (with_folded s)
+      core_folded laws s h lawful now =
+          let same : layout_of (absorbed r v.fold m) ≡ layout_of v.fold = absorbed_layout r v.fold m in
+          let stays : (n : ℕ) → n ≤ length s.folded → take n (s.folded ++ m ∷ []) ≡ take n s.folded = λ n le. take-append-le n s.folded (m ∷ []) le in
+          record {
+            fit = fit_after h.fit (absorbed r v.fold m).table.shape (absorbed r v.fold m) same;
+            lawful = lawful;
+            each = each_after s h (with_taken (worker_in s w) 1) now;
+            fold = folded_on r v.fold s.folded m h.fold (fits_in laws h.fit (with_folded s) lawful);
+            shown = subst (λ (l : Layout). IsShownOf r l (take s.shown (s.folded ++ m ∷ [])) v.shown) (sym same)
+                (subst (λ (ms : List Push). IsShownOf r (layout_of v.fold) ms v.shown) (sym (stays s.shown h.lawful.shown)) h.shown);
+            readers = h.readers;
+            seen = λ q front at_q.
+                let few = seen_shown s h q (slice_get_within v.seen q front at_q) in
+                h.seen q front at_q ∙ ap (front_of (workers_of v)) (sym (stays (get_or s.seen q 0) (omega (arith, few, h.lawful.shown))));
+          }
+
+      pub take_one : v.shape ≡ shape_of v → AreLaws r → ((x : Worker) → IsWorkerAt stands (terms_of r v.limits) w d x
+          → (x.taken < length x.sent) × (message_at x.sent x.taken ≡ m) × IsWorkerAt stands (terms_of r v.limits) w e (with_taken x 1))
+          → Steps stands r v (record v { shape = (absorbed r v.fold m).table.shape; workers = set v.workers w e; fold = absorbed r v.fold m }) (Take w) (Took m.amount)
+      unfolding lag_step
+      take_one own laws works = record {
+        limits = refl;
+        readers = refl;
+        same_shape = ap (λ (l : Layout). l.shape) (absorbed_layout r v.fold m) ∙ sym own;
+        layout = absorbed_layout r v.fold m;
+        step = λ s h.
+            let now = works (worker_in s w) (h.each w d at) in
+            let step = took s w m now.0 now.1 in
+            let lawful : IsLawfulState (terms_of r v.limits) (with_folded s) = subst (λ (z : State × Reply). IsLawfulState (terms_of r v.limits) z.0) step (step_lawful (terms_of r v.limits) s (Take w) h.lawful) in
+            subst (λ (z : State × Reply). IsCoreAt stands r (record v { shape = (absorbed r v.fold m).table.shape; workers = set v.workers w e; fold = absorbed r v.fold m }) z.0 × (Took m.amount ≡ z.1)) (sym step)
+            (core_folded laws s h lawful now.2, refl);
+      }
+
+  -- what is folded is shown
+  module _ (shown : ShownState K H) (table : shown.table ≡ v.fold.table) (front : shown.front.items ≡ v.fold.front) (upto : shown.upto.items ≡ v.fold.upto)
+      (live : shown.live ≡ length v.fold.heavy.keys) (missed : shown.missed ≡ v.fold.heavy.missed) where
+    all_shown : (s : State) → IsCoreAt stands r v s → IsShownOf r (layout_of v.fold) (take (length s.folded) s.folded) shown
+    all_shown s h =
+        let its = state_shows s h in
+        subst (λ (ms : List Push). IsShownOf r (layout_of v.fold) ms shown) (sym (take_all (length s.folded) s.folded (omega arith))) (record {
+          table = table ∙ (λ i. record { shape = shape_of v; cells = its.cells i });
+          front = front ∙ its.front;
+          upto = upto ∙ its.upto;
+          live = live ∙ ap length its.keys;
+          missed = missed ∙ its.missed;
+        })
+
+    pub publish_steps : Steps stands r v (record v { shown = shown }) Publish Published
+    unfolding lag_step
+    publish_steps = record {
+      limits = refl;
+      readers = refl;
+      same_shape = refl;
+      layout = refl;
+      step = λ s h. (
+        record {
+          fit = record { workers = h.fit.workers; few = h.fit.few; few_updates = h.fit.few_updates; updates = h.fit.updates; cells = h.fit.cells; fronts = h.fit.fronts };
+          lawful = step_lawful (terms_of r v.limits) s Publish h.lawful;
+          each = h.each;
+          fold = h.fold;
+          shown = all_shown s h;
+          readers = h.readers;
+          seen = h.seen;
+        },
+        refl,
+      );
+    }
+
+  -- a reader sees what is shown
+  pub ask_steps : (q : ℕ) (front : Listed ℕ) → q < length v.seen → front.items ≡ v.shown.front.items → Steps stands r v (record v { seen = set v.seen q front }) (Ask q) Answered
+  unfolding lag_step
+  ask_steps q front below is = record {
+    limits = refl;
+    readers = length-set v.seen q front;
+    same_shape = refl;
+    layout = refl;
+    step = λ s h. (
+      record {
+        fit = record { workers = h.fit.workers; few = h.fit.few; few_updates = h.fit.few_updates; updates = h.fit.updates; cells = h.fit.cells; fronts = h.fit.fronts };
+        lawful = step_lawful (terms_of r v.limits) s (Ask q) h.lawful;
+        each = h.each;
+        fold = h.fold;
+        shown = h.shown;
+        readers = length-set s.seen q s.shown ∙ h.readers ∙ sym (length-set v.seen q front);
+        seen = λ p other at. elim (slot_set v.seen q p front other at) [
+          | inl e ↦
+              let here : get_or (set s.seen q s.shown) p 0 ≡ s.shown = subst (λ (k : ℕ). get_or (set s.seen q s.shown) k 0 ≡ s.shown) e.0 (get_or-set_same s.seen q s.shown 0 (omega (arith, below, h.readers))) in
+              ap (λ (l : Listed ℕ). l.items) (sym e.1) ∙ is ∙ h.shown.front ∙ (λ i. front_of (h.fit.fronts i) (take (sym here i) s.folded))
+          | inr e ↦
+              let there : get_or (set s.seen q s.shown) p 0 ≡ get_or s.seen p 0 = get_or-set_other s.seen q p s.shown 0 (λ x. e.0 (sym x)) in
+              h.seen p other e.1 ∙ ap (λ (n : ℕ). front_of (workers_of v) (take n s.folded)) (sym there)
+        ];
+      },
+      refl,
+    );
+  }

@@ -1,109 +1,85 @@
 -- A core to which nothing has happened.
-use Rattle.std.proofs.Common.{◌≡◌, ◌<◌, ℕ, ℤ, pos, true, true≢false, List, [], length, take, get_or, replicate, slice_get, Some, refl, sym, ◌∙◌, ap, subst, arith}
-use Rattle.std.specs.Prelude.{All}
+use Rattle.std.proofs.Common.{◌≡◌, ◌<◌, ◌^◌, ℕ, ℤ, true, List, [], length, take, get_or, replicate, slice_get, Some, sym, ◌∙◌, ap, subst, arith}
+use Rattle.std.specs.Prelude.{All, map}
 use Rattle.std.proofs.lemmas.List.{length-replicate, get_or-replicate}
-use Rattle.std.proofs.lemmas.List.Elements.{All-nil}
+use Rattle.std.proofs.lemmas.List.Elements.{All-map, All-nil}
 use Rattle.std.proofs.lemmas.Option.{get_or_from_slice_get, slice_get_within}
+use Rattle.listed.specs.Listed.{Listed}
 use Rattle.hash_rows.specs.declared.shape.Push.{Push}
-use Rattle.hash_rows.specs.declared.shape.Shape.{Shape}
 use Rattle.hash_rows.specs.declared.shape.Update.{Update as Entry}
 use Rattle.hash_rows.specs.Rules.{Rules}
-use Rattle.hash_rows.specs.Shapes.{IsShape, size_of}
-use Rattle.heavy_keys.proofs.LiveLemmas.{holds_none}
+use Rattle.hash_rows.specs.Shapes.{size_of}
 use Rattle.push_history.specs.Front.{front_of}
-use Rattle.push_history.specs.LagRun.{Worker, lag_run, start, fresh_worker, updates_by}
-use Rattle.push_history.specs.Pushes.{IsNamed}
+use Rattle.push_history.specs.LagRun.{Worker, fresh_worker, lag_run, start}
 use Rattle.push_history.specs.Updates.{HoldValues}
-use Rattle.push_rule.specs.Stands.{PrivateView}
-use Rattle.lag_core.specs.Lanes.{Queue, fresh_lane}
-use Rattle.lag_core.specs.Sights.{Sight, IsSightOf}
-use Rattle.lag_core.specs.Workers.{IsWorkerAt, IsFreshSketch, terms_of}
-use Rattle.lag_core.specs.Lags.{Core, IsCoreAt, workers_of}
-use Rattle.push_history.proofs.MoreMessages.{cells_none, front_none, upto_none}
-use Rattle.lag_core.proofs.Heavies.{heavy_none}
-use Rattle.lag_core.proofs.Lists.{all_slot}
-use Rattle.lag_core.proofs.Sizes.{some_at}
-use Rattle.lag_core.specs.Workers.{CanCount}
+use Rattle.push_history.proofs.MoreMessages.{front_none}
+use Rattle.push_history.proofs.RunLaws.{run_lawful}
+use Rattle.live_state.specs.declared.layout.Layout.{Layout}
+use Rattle.live_state.specs.Fold.{fits, fresh_state, layout_of, zero_cells}
+use Rattle.live_state.proofs.Layouts.{fresh_layout}
+use Rattle.live_state.proofs.Live.{shows_all}
+use Rattle.lag_core.specs.declared.shown.ShownState.{ShownState}
+use Rattle.lag_core.specs.declared.worker.LagWorker.{LagWorker}
+use Rattle.lag_core.specs.Workers.{IsFreshWorker, IsWorkerAt, terms_of}
+use Rattle.lag_core.specs.Lags.{Core, IsCoreAt, IsShownOf, shape_of, workers_of}
 
--- zeros tell of no message
-pub zeros : (r : Rules) (shape : Shape) (workers : ℕ) (x : Sight) → x.cells ≡ replicate (size_of shape) (pos 0) → x.front ≡ replicate workers 0 → x.upto ≡ replicate workers 0 → IsSightOf r shape workers x []
-zeros r shape workers x cells front upto = record { cells = cells ∙ cells_none r shape; front = front ∙ front_none workers; upto = upto ∙ upto_none workers }
+-- nothing is shown before a message is folded
+pub none_shown : {K H : Type 0} (r : Rules) (l : Layout) (shown : ShownState K H) → shown.table ≡ record { shape = l.shape; cells = zero_cells l.shape }
+    → shown.front.items ≡ replicate l.workers 0 → shown.upto.items ≡ replicate l.workers 0 → shown.live ≡ 0 → shown.missed ≡ 0 → IsShownOf r l [] shown
+none_shown r l shown table front upto live missed =
+    let its = shows_all r l [] (All-nil (λ (m : Push). fits r l m ≡ true)) (omega arith) in
+    record {
+      table = table ∙ (λ i. record { shape = l.shape; cells = its.cells i });
+      front = front ∙ its.front;
+      upto = upto ∙ its.upto;
+      live = live ∙ ap length its.keys;
+      missed = missed ∙ its.missed;
+    }
 
-module _ {H : Type 0} (stands : H → ℤ → ℤ → Type 0) (r : Rules) (v : Core H) (shape : IsShape v.shape)
-    (same_sketches : length v.sketches ≡ workers_of v) (same_lanes : length v.lanes ≡ workers_of v)
-    (sketches : (w : ℕ) (row : List Entry) (p : PrivateView H) → slice_get v.limits.updates w ≡ Some row → slice_get v.sketches w ≡ Some p → IsFreshSketch stands r (size_of v.shape) v.limits.threshold row p)
-    (lanes : (w : ℕ) (q : Queue) → slice_get v.lanes w ≡ Some q → q ≡ fresh_lane v.limits.capacity)
-    (cells : All (λ row. All (λ u. u.cell < size_of v.shape) row) v.limits.updates) (values : All (λ row. HoldValues r row) v.limits.updates) where
-  worker_fresh : (w : ℕ) (row : List Entry) (p : PrivateView H) (q : Queue) → slice_get v.limits.updates w ≡ Some row → slice_get v.sketches w ≡ Some p → slice_get v.lanes w ≡ Some q
-      → IsWorkerAt stands (terms_of r v.limits) w p q fresh_worker
-  worker_fresh w row p q row_at sketch_at lane_at =
-      let t = terms_of r v.limits in
-      let its = sketches w row p row_at sketch_at in
-      let lane = lanes w q lane_at in
-      let rows : row ≡ updates_by t w = sym (get_or_from_slice_get v.limits.updates w row [] row_at) in
-      let none : p.counted ≡ 0 = its.sketch.all_counted in
-      record {
-        within = omega arith;
-        sketch = its.sketch;
-        can_count = subst (λ (us : List Entry). CanCount r us p) rows (record {
-          idle = its.idle;
-          room = its.room;
-          small = its.small;
-          counted = omega (arith, none);
-          cells = subst (λ (n : ℕ). All (λ u. u.cell < n) row) (sym its.held) (all_slot (λ us. All (λ u. u.cell < size_of v.shape) us) v.limits.updates w row cells row_at);
-          values = all_slot (λ us. HoldValues r us) v.limits.updates w row values row_at;
-        });
-        threshold = its.threshold;
-        capacity = ap (λ (z : Queue). z.capacity) lane;
-        taken = omega arith;
-        few = omega arith;
-        queued = ap (λ (z : Queue). z.messages) lane;
-        named = All-nil (IsNamed w (updates_by t w));
-        amounts = All-nil (λ m. r.is_value m.amount ≡ true);
-        cells = All-nil (λ (m : Push). m.cell < length p.held);
-        numbers = All-nil (λ (m : Push). m.update < 0);
-        full_lane = λ k is. absurd (true≢false (sym is));
-        waiting = λ _. refl;
-      }
+-- the updates of each worker are few, and each is of a cell and has a value of the kind
+pub rows_fit : (r : Rules) (size : ℕ) (rows : List (Listed Entry)) → All (λ row. length row.items < 2 ^ 32) rows → All (λ row. All (λ u. u.cell < size) row.items) rows → All (λ row. HoldValues r row.items) rows
+    → (w : ℕ) → w < length (map (λ (l : Listed Entry). l.items) rows)
+    → (length (get_or (map (λ (l : Listed Entry). l.items) rows) w []) < 2 ^ 32) × All (λ u. u.cell < size) (get_or (map (λ (l : Listed Entry). l.items) rows) w []) × HoldValues r (get_or (map (λ (l : Listed Entry). l.items) rows) w [])
+rows_fit r size rows few cells values w below =
+    let items = map (λ (l : Listed Entry). l.items) rows in (
+      All-map (λ (us : List Entry). length us < 2 ^ 32) (λ (l : Listed Entry). l.items) rows few w [] below,
+      All-map (λ (us : List Entry). All (λ u. u.cell < size) us) (λ (l : Listed Entry). l.items) rows cells w [] below,
+      All-map (λ (us : List Entry). HoldValues r us) (λ (l : Listed Entry). l.items) rows values w [] below,
+    )
 
-  start_worker : (w : ℕ) → w < workers_of v → get_or (replicate (workers_of v) fresh_worker) w fresh_worker ≡ fresh_worker
-  start_worker w below = get_or-replicate (workers_of v) w fresh_worker fresh_worker below
-
-  pub core_fresh : (fold : IsSightOf r v.shape (workers_of v) v.fold []) (shown : IsSightOf r v.shape (workers_of v) v.shown [])
-      → v.heavy.keys ≡ [] → v.heavy.missed ≡ 0 → v.live ≡ 0 → v.missed ≡ 0 → All (λ front. front ≡ replicate (workers_of v) 0) v.seen
+module _ {K H : Type 0} (stands : H → ℤ → ℤ → Type 0) (r : Rules) (v : Core K H) (l : Layout) where
+  pub core_fresh : v.fold ≡ fresh_state l → l.workers ≡ workers_of v → length v.workers ≡ workers_of v → workers_of v < 2 ^ 32
+      → ((w : ℕ) (d : LagWorker K H) → slice_get v.workers w ≡ Some d → IsFreshWorker stands (terms_of r v.limits) (size_of l.shape) w d)
+      → ((w : ℕ) → w < workers_of v → (length (get_or v.limits.updates w []) < 2 ^ 32) × All (λ u. u.cell < size_of l.shape) (get_or v.limits.updates w []) × HoldValues r (get_or v.limits.updates w []))
+      → IsShownOf r l [] v.shown → All (λ front. front.items ≡ replicate (workers_of v) 0) v.seen
       → IsCoreAt stands r v (lag_run (terms_of r v.limits) (length v.seen) [])
   unfolding lag_run start
-  core_fresh fold shown keys no_missed live missed fronts =
-      let heavy = heavy_none r v.shape v.heavy (holds_none v.heavy keys no_missed) keys no_missed in
+  core_fresh fold same count few fresh updates shown fronts =
+      let layout : layout_of v.fold ≡ l = ap layout_of fold ∙ fresh_layout l in
+      let size : size_of (shape_of v) ≡ size_of l.shape = ap (λ (z : Layout). size_of z.shape) layout in
       record {
-        shape = shape;
-        workers = length-replicate (workers_of v) fresh_worker;
-        sketches = same_sketches;
-        lanes = same_lanes;
-        each = λ w p q at_p at_q.
-            let below : w < workers_of v = omega (arith, slice_get_within v.sketches w p at_p, same_sketches) in
-            let row = row_at w below in
-            subst (λ (x : Worker). IsWorkerAt stands (terms_of r v.limits) w p q x) (sym (start_worker w below)) (worker_fresh w row.0 p q row.1 at_p at_q);
-        cells = λ w p at_p.
-            let below : w < workers_of v = omega (arith, slice_get_within v.sketches w p at_p, same_sketches) in
-            let row = row_at w below in
-            (sketches w row.0 p row.1 at_p).held;
-        fold = fold;
-        shown = shown;
-        shown_within = omega arith;
-        own = λ w below. ap (λ (x : Worker). take x.taken x.sent) (sym (start_worker w below));
-        sources = All-nil (λ (m : Push). m.worker < workers_of v);
-        amounts = All-nil (λ (m : Push). r.is_value m.amount ≡ true);
-        heavy = heavy;
-        live = ap (λ (n : ℕ). take n v.heavy.keys) live ∙ sym keys ∙ heavy.keys;
-        live_within = omega (arith, live);
-        missed = missed ∙ sym no_missed ∙ heavy.missed;
+        fit = record {
+          workers = count;
+          few = few;
+          few_updates = λ w below. (updates w below).0;
+          updates = λ w below k e lt. (omega (arith, (updates w below).1 k e lt, size), (updates w below).2 k e lt);
+          cells = λ w d at. (fresh w d at).its_cells ∙ sym size;
+          fronts = ap (λ (z : Layout). z.workers) layout ∙ same;
+        };
+        lawful = run_lawful (terms_of r v.limits) (length v.seen) [];
+        each = λ w d at.
+            let there : get_or (replicate (workers_of v) fresh_worker) w fresh_worker ≡ fresh_worker =
+            get_or-replicate (workers_of v) w fresh_worker fresh_worker (omega (arith, slice_get_within v.workers w d at, count)) in
+            subst (λ (x : Worker). IsWorkerAt stands (terms_of r v.limits) w d x) (sym there) (fresh w d at).fresh;
+        fold = record {
+          fit = All-nil (λ (m : Push). fits r (layout_of v.fold) m ≡ true);
+          sums = fold ∙ ap fresh_state (sym layout);
+        };
+        shown = subst (λ (z : Layout). IsShownOf r z [] v.shown) (sym layout) shown;
         readers = length-replicate {A = ℕ} (length v.seen) 0;
         seen = λ q front at.
             let below : q < length v.seen = slice_get_within v.seen q front at in
             let none : get_or (replicate (length v.seen) 0) q 0 ≡ 0 = get_or-replicate {A = ℕ} (length v.seen) q 0 0 below in
-            (all_slot (λ (f : List ℕ). f ≡ replicate (workers_of v) 0) v.seen q front fronts at ∙ front_none (workers_of v) ∙ ap (λ (n : ℕ). front_of (workers_of v) (take n [])) (sym none), omega (arith, none));
+            subst (λ (z : Listed ℕ). z.items ≡ replicate (workers_of v) 0) (get_or_from_slice_get v.seen q front front at) (fronts q front below) ∙ front_none (workers_of v)
+            ∙ ap (λ (n : ℕ). front_of (workers_of v) (take n [])) (sym none);
       }
-    where
-      row_at : (w : ℕ) → w < workers_of v → (row : List Entry) × (slice_get v.limits.updates w ≡ Some row)
-      row_at w below = some_at v.limits.updates w below

@@ -8,43 +8,49 @@ use Rattle.push_history.specs.Pushes.{LawfulPushes}
 use Rattle.push_history.specs.Residue.{residue}
 use Rattle.push_history.specs.Told.{told_of}
 use Rattle.push_history.specs.Whole.{whole}
-use Rattle.push_rule.specs.Stands.{PrivateView}
-use Rattle.lag_core.specs.Lanes.{Queue}
+use Rattle.lag_core.specs.declared.worker.LagWorker.{LagWorker}
 use Rattle.lag_core.specs.Workers.{terms_of}
 use Rattle.lag_core.specs.Lags.{Core, workers_of}
 
--- how many messages of the worker the core has folded
-abbrev pub folded_front : {Held : Type 0} → Core Held → ℕ → ℕ
-folded_front v w = slice_index_or v.fold.front w 0
+module _ {K Held : Type 0} where
+  -- how many messages of the worker the core has folded
+  abbrev pub folded_front : Core K Held → ℕ → ℕ
+  folded_front v w = slice_index_or v.fold.front w 0
 
--- how many of them it shows
-abbrev pub shown_front : {Held : Type 0} → Core Held → ℕ → ℕ
-shown_front v w = slice_index_or v.shown.front w 0
+  -- how many of them it shows
+  abbrev pub shown_front : Core K Held → ℕ → ℕ
+  shown_front v w = slice_index_or v.shown.front.items w 0
 
--- the pushes of worker w are lawful up to the updates that its sketch counted; of its messages the first are folded, as
--- many as the core's front says, and the others wait in its lane
-pub record IsLawfulAt {Held : Type 0} (r : Rules) (v : Core Held) (s : State) (w : ℕ) (p : PrivateView Held) (q : Queue) : Type 0 where
-  pub pushes : LawfulPushes r w v.limits.threshold v.limits.capacity v.limits.full (take p.counted (updates_by (terms_of r v.limits) w)) (worker_in s w).sent (worker_in s w).refused
-  pub folded : messages_of w s.folded ≡ take (folded_front v w) (worker_in s w).sent
-  pub queued : q.messages ≡ drop (folded_front v w) (worker_in s w).sent
+  -- the messages in the worker's lane
+  abbrev pub lane_of : LagWorker K Held → List Push
+  lane_of d = drop d.counter.taken d.counter.queue
 
--- so is it with each worker, and no more is shown than is folded
-pub record IsLawfulCore {Held : Type 0} (r : Rules) (v : Core Held) (s : State) : Type 0 where
-  pub workers : (w : ℕ) (p : PrivateView Held) (q : Queue) → slice_get v.sketches w ≡ Some p → slice_get v.lanes w ≡ Some q → IsLawfulAt r v s w p q
-  pub shown : (w : ℕ) → w < workers_of v → shown_front v w ≤ folded_front v w
+  -- the pushes of worker w are lawful up to the updates that its sketch counted; of its messages the first are folded,
+  -- as many as the core's front says, and the others wait in its lane
+  pub record IsLawfulAt (r : Rules) (v : Core K Held) (s : State) (w : ℕ) (d : LagWorker K Held) : Type 0 where
+    pub pushes : LawfulPushes r w v.limits.threshold v.limits.capacity v.limits.full
+        (take d.counter.sketch.counted (updates_by (terms_of r v.limits) w)) (worker_in s w).sent (worker_in s w).refused
+    pub folded : messages_of w s.folded ≡ take (folded_front v w) (worker_in s w).sent
+    pub queued : lane_of d ≡ drop (folded_front v w) (worker_in s w).sent
 
--- what those of a worker's messages that are shown tell of a cell
-abbrev pub told_shown : {Held : Type 0} → Rules → Core Held → List Push → ℕ → ℕ → ℤ
-told_shown r v sent w cell = told_of r cell (take (shown_front v w) sent)
+  -- so is it with each worker, and no more is shown than is folded
+  pub record IsLawfulCore (r : Rules) (v : Core K Held) (s : State) : Type 0 where
+    pub workers : (w : ℕ) (d : LagWorker K Held) → slice_get v.workers w ≡ Some d → IsLawfulAt r v s w d
+    pub shown : (w : ℕ) → w < workers_of v → shown_front v w ≤ folded_front v w
 
--- what those tell that are folded and not shown
-abbrev pub told_folded : {Held : Type 0} → Rules → Core Held → List Push → ℕ → ℕ → ℤ
-told_folded r v sent w cell = told_of r cell (take (folded_front v w - shown_front v w) (drop (shown_front v w) sent))
+  -- what those of a worker's messages that are shown tell of a cell
+  abbrev pub told_shown : Rules → Core K Held → List Push → ℕ → ℕ → ℤ
+  told_shown r v sent w cell = told_of r cell (take (shown_front v w) sent)
 
--- what the sketch of a worker counted of a cell is the join of what is shown of it, folded and not shown, queued, and not told
-pub record Conserves {Held : Type 0} (r : Rules) (v : Core Held) (s : State) : Type 0 where
-  pub whole_is : (w cell : ℕ) (p : PrivateView Held) (q : Queue) → slice_get v.sketches w ≡ Some p → slice_get v.lanes w ≡ Some q →
-      let updates = updates_by (terms_of r v.limits) w in
-      let sent = (worker_in s w).sent in
-      whole r updates p.counted cell
-      ≡ r.join (r.join (r.join (told_shown r v sent w cell) (told_folded r v sent w cell)) (told_of r cell q.messages)) (residue r updates sent p.counted cell)
+  -- what those tell that are folded and not shown
+  abbrev pub told_folded : Rules → Core K Held → List Push → ℕ → ℕ → ℤ
+  told_folded r v sent w cell = told_of r cell (take (folded_front v w - shown_front v w) (drop (shown_front v w) sent))
+
+  -- what the sketch of a worker counted of a cell is the join of what is shown of it, folded and not shown, queued, and not told
+  pub record Conserves (r : Rules) (v : Core K Held) (s : State) : Type 0 where
+    pub whole_is : (w cell : ℕ) (d : LagWorker K Held) → slice_get v.workers w ≡ Some d →
+        let updates = updates_by (terms_of r v.limits) w in
+        let sent = (worker_in s w).sent in
+        whole r updates d.counter.sketch.counted cell
+        ≡ r.join (r.join (r.join (told_shown r v sent w cell) (told_folded r v sent w cell)) (told_of r cell (lane_of d)))
+        (residue r updates sent d.counter.sketch.counted cell)

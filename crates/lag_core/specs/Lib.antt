@@ -1,5 +1,3 @@
-pub mod Lanes
-pub mod Sights
 pub mod Workers
 pub mod Lags
 pub mod Laws

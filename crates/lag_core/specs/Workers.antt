@@ -1,17 +1,15 @@
 -- A worker that runs, and the state of a run that it stands for.
-use Rattle.std.specs.Prelude.{◌≡◌, ◌<◌, ◌≤◌, ℕ, ℤ, ◌^◌, List, [], All, None, length, take, drop, true}
+use Rattle.std.specs.Prelude.{◌≡◌, ◌<◌, ◌≤◌, ℕ, ℤ, ◌+◌, List, All, Bool, true, false, length, min, slice_index_or}
 use Rattle.hash_rows.specs.declared.options.Full.{Full}
-use Rattle.hash_rows.specs.declared.options.Full.TheVariants.{Wait}
-use Rattle.hash_rows.specs.declared.shape.Push.{Push}
 use Rattle.hash_rows.specs.declared.shape.Update.{Update}
 use Rattle.hash_rows.specs.Rules.{Rules}
-use Rattle.push_history.specs.LagRun.{Terms, Worker, updates_by}
-use Rattle.push_history.specs.Pushes.{IsNamed, is_refused}
-use Rattle.push_history.specs.Told.{messages_before, told_of}
-use Rattle.push_history.specs.Whole.{whole_of}
+use Rattle.push_history.specs.declared.event.Reply.{Reply}
+use Rattle.push_history.specs.declared.event.Reply.TheVariants.{Refused}
+use Rattle.push_history.specs.LagRun.{Terms, Worker, fresh_worker, updates_by}
+use Rattle.push_history.specs.Pushes.{is_refused}
 use Rattle.push_history.specs.Updates.{HoldValues}
-use Rattle.push_rule.specs.Stands.{PrivateView, StandsFor}
-use Rattle.lag_core.specs.Lanes.{Queue}
+use Rattle.push_rule.specs.Keeps.{Keeps}
+use Rattle.lag_core.specs.declared.worker.LagWorker.{LagWorker}
 
 -- what a run is of, besides the kind of sketch
 pub record Limits : Type 0 where
@@ -24,41 +22,39 @@ pub record Limits : Type 0 where
 abbrev pub terms_of : Rules → Limits → Terms
 terms_of r l = record { rules = r; threshold = l.threshold; capacity = l.capacity; full = l.full; updates = l.updates }
 
--- how far the update takes its cell from what these messages told of it, where these updates were counted before
-abbrev pub distance_with : Rules → List Push → List Update → Update → ℕ
-distance_with r messages before update = r.distance (told_of r update.cell messages) (r.join (whole_of r update.cell before) update.value)
+-- for how many messages the queue has room: one more than a full lane holds, or as many as there are updates
+abbrev pub queue_room : ℕ → ℕ → ℕ
+queue_room lane updates = min (lane + 1) updates
 
--- the sketch can count these updates: nothing is due, there is room for all, and each is of a cell and has a value of the kind
-pub record CanCount {Held : Type 0} (r : Rules) (updates : List Update) (p : PrivateView Held) : Type 0 where
-  pub idle : p.due ≡ None
-  pub room : p.room ≡ length updates
-  pub small : length updates < 2 ^ 32
-  pub counted : p.counted ≤ length updates
-  pub cells : All (λ u. u.cell < length p.held) updates
-  pub values : HoldValues r updates
+-- whether a push was refused
+abbrev pub is_refusal : Reply → Bool
+is_refusal Refused = true
+is_refusal _ = false
 
--- the sketch and the lane of worker w are those of this state of a run
-pub record IsWorkerAt {Held : Type 0} (stands : Held → ℤ → ℤ → Type 0) (t : Terms) (w : ℕ) (p : PrivateView Held) (lane : Queue) (s : Worker) : Type 0 where
-  pub within : s.counted ≤ length (updates_by t w)
-  pub sketch : StandsFor stands t.rules p (take s.counted (updates_by t w)) s.sent s.refused
-  pub can_count : CanCount t.rules (updates_by t w) p
-  pub threshold : p.threshold ≡ t.threshold
-  pub capacity : lane.capacity ≡ t.capacity
-  pub taken : s.taken ≤ length s.sent
-  pub few : length s.sent ≤ s.counted
-  pub queued : lane.messages ≡ drop s.taken s.sent
-  pub named : All (IsNamed w (updates_by t w)) s.sent
-  pub amounts : All (λ m. t.rules.is_value m.amount ≡ true) s.sent
-  pub cells : All (λ m. m.cell < length p.held) s.sent
-  pub numbers : All (λ m. m.update < s.counted) s.sent
-  pub full_lane : (k : ℕ) → is_refused k s.refused ≡ true → t.capacity ≤ length (messages_before k s.sent)
-  pub waiting : t.full ≡ Wait → s.refused ≡ []
+module _ {K Held : Type 0} where
+  -- the worker has room for so many updates and for the messages of a full lane, and its queue holds none besides
+  pub record IsReadyToCount (updates : ℕ) (d : LagWorker K Held) : Type 0 where
+    pub updates_room : d.counter.sketch.room ≡ updates
+    pub marks : length d.refused ≡ updates
+    pub room : d.counter.room ≡ queue_room d.counter.lane updates
+    pub cleared : d.counter.taken ≡ 0
+    pub short : length d.counter.queue ≤ d.counter.lane
 
--- the sketch has counted nothing, and has so many cells and room for all of these updates
-pub record IsFreshSketch {Held : Type 0} (stands : Held → ℤ → ℤ → Type 0) (r : Rules) (cells its_threshold : ℕ) (updates : List Update) (p : PrivateView Held) : Type 0 where
-  pub sketch : StandsFor stands r p [] [] []
-  pub idle : p.due ≡ None
-  pub held : length p.held ≡ cells
-  pub threshold : p.threshold ≡ its_threshold
-  pub room : p.room ≡ length updates
-  pub small : length updates < 2 ^ 32
+  -- it can take up these updates: it is ready for them, its queue holds no more messages than it counted updates, and each
+  -- update is of one of its cells and has a value of the kind
+  pub record CanTakeUp (r : Rules) (updates : List Update) (d : LagWorker K Held) : Type 0 where
+    pub ready : IsReadyToCount (length updates) d
+    pub few : length d.counter.queue ≤ d.counter.sketch.counted
+    pub cells : All (λ u. u.cell < length d.counter.sketch.held) updates
+    pub values : HoldValues r updates
+
+  -- it is worker w of a run, in this state
+  pub record IsWorkerAt (stands : Held → ℤ → ℤ → Type 0) (t : Terms) (w : ℕ) (d : LagWorker K Held) (x : Worker) : Type 0 where
+    pub keeps : Keeps stands t w d.counter x
+    pub marks : (k : ℕ) → slice_index_or d.refused k false ≡ is_refused k x.refused
+    pub ready : IsReadyToCount (length (updates_by t w)) d
+
+  -- it is worker w before anything happened, with so many cells
+  pub record IsFreshWorker (stands : Held → ℤ → ℤ → Type 0) (t : Terms) (cells w : ℕ) (d : LagWorker K Held) : Type 0 where
+    pub fresh : IsWorkerAt stands t w d fresh_worker
+    pub its_cells : length d.counter.sketch.held ≡ cells

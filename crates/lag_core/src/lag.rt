@@ -1,23 +1,16 @@
-ghost use Rattle.std.specs.Prelude.{◌≡◌, ◌<◌, ◌≤◌, ◌^◌, ◌++◌, ◌∷◌, [], length, List, IfOk, OnOk, All, true, slice_index_or, map, replicate};
-ghost use Rattle.std.specs.List.{AllZip};
-ghost use Rattle.push_history.specs.Updates.{HoldValues};
-ghost use Rattle.lag_core.specs.Lanes.{fresh_lane};
-ghost use Rattle.lag_core.specs.Workers.{IsFreshSketch};
-ghost use Rattle.hash_rows.specs.Rules.{AreValues};
+ghost use Rattle.std.specs.Prelude.{◌≡◌, ◌<◌, ◌≤◌, ◌^◌, ◌++◌, ◌∷◌, ℕ, [], All, IfOk, List, OnOk, Some, length, map, replicate, slice_get};
 ghost use Rattle.hash_rows.specs.Shapes.{IsShape, size_of};
+ghost use Rattle.push_history.specs.Updates.{HoldValues};
 ghost use Rattle.push_history.specs.declared.event.Event.{Event};
-ghost use Rattle.lag_core.specs.Lags.{with_note};
-ghost use Rattle.lag_core.specs.Sights.{with_message};
+ghost use Rattle.lag_core.specs.Workers.{IsFreshWorker, terms_of};
 
-use crate::lane::Lane;
-use crate::sight::{Sight, copy_items};
-use crate::worker::{UpdateRows, take_up};
+use crate::shown::{ShownState, nothing_shown, show};
+use crate::worker::{LagWorker, UpdateRows, new_worker, take_oldest, take_up};
 use flow_base::NoMemory;
-use hash_rows::{Counts, Full, Kind, Push, Shape};
-use heavy_keys::Heavy;
+use hash_rows::{Counts, Full, Kind, Shape};
 use listed::Listed;
+use live_state::{State, copy_counts};
 use push_history::{Event, Reply};
-use push_rule::Private;
 use std::alloc::Global;
 use std::marker::Model;
 
@@ -25,50 +18,39 @@ use std::marker::Model;
 /// and two tables, and no list of messages.
 #[derive(Drop)]
 pub struct Lag<K: Kind> {
-    pub(crate) shape: Shape,
     pub(crate) threshold: u64,
     pub(crate) capacity: u32,
     pub(crate) full: Full,
     pub(crate) updates: UpdateRows,
-    pub(crate) sketches: Vec<Private<K>>,
-    pub(crate) lanes: Vec<Lane>,
-    pub(crate) fold: Sight,
-    pub(crate) shown: Sight,
-    pub(crate) heavy: Heavy,
-    // How many of the heavy keys are shown, and how many were missed until then.
-    pub(crate) live: u32,
-    pub(crate) missed: u64,
+    pub(crate) workers: Vec<LagWorker<K>>,
+    pub(crate) fold: State<K>,
+    pub(crate) shown: ShownState<K>,
     pub(crate) seen: Vec<Counts>,
 }
 
 impl<K: Kind> Model for Lag<K> {
     ghost use Rattle.std.specs.Prelude.{map};
-    ghost use Rattle.push_history.specs.LagRun.{State};
+    ghost use Rattle.push_history.specs.LagRun.{State as RunState};
     ghost use Rattle.lag_core.specs.Lags.{Core, IsCoreAt};
 
-    ghost Value = { Core K.Held };
+    ghost Value = { Core K K.Held };
 
     ghost view = { λ l. record {
-      shape = l.shape;
-      limits = record { threshold = l.threshold; capacity = l.capacity; full = l.full; updates = map (λ u. u.items) l.updates.items };
-      sketches = l.sketches.items;
-      lanes = l.lanes.items;
+      shape = l.fold.table.shape;
+      limits = record { threshold = l.threshold; capacity = l.capacity; full = l.full; updates = map (λ row. row.items) l.updates.items };
+      workers = l.workers.items;
       fold = l.fold;
       shown = l.shown;
-      heavy = l.heavy;
-      live = l.live;
-      missed = l.missed;
-      seen = map (λ c. c.items) l.seen.items;
+      seen = l.seen.items;
     } };
 
-    ghost invariant = { λ l. (s : State) × IsCoreAt K.stands K.rules (view l) s };
+    ghost invariant = { λ l. (s : RunState) × IsCoreAt K.stands K.rules (view l) s };
 }
 
 impl<K: Kind> Lag<K> {
     ghost use Rattle.push_history.specs.declared.event.Event.TheVariants.{Update, Take, Publish, Ask};
     ghost use Rattle.push_history.specs.LagRun.{reply_to};
-    ghost use Rattle.lag_core.specs.Workers.{terms_of};
-    ghost use Rattle.lag_core.specs.Lags.{HasRun, Steps, IsWithin, run_state, workers_of};
+    ghost use Rattle.lag_core.specs.Lags.{HasRun, IsWithin, Steps, run_state, workers_of};
     ghost use Rattle.lag_core.specs.Laws.{Conserves, IsLawfulCore};
 
     /// A run in which nothing has happened: a worker for each list of updates, lanes of so many
@@ -91,33 +73,32 @@ impl<K: Kind> Lag<K> {
         requires values { All (λ row. HoldValues K.rules row.items) updates.items }
         ensures fresh { IfOk result (λ lag. HasRun K.stands K.rules lag []) }
         ensures shape { IfOk result (λ lag. lag.shape ≡ shape) }
-        ensures limits { IfOk result (λ lag. lag.limits ≡ record { threshold = threshold; capacity = capacity; full = full; updates = map (λ row. row.items) updates.items }) }
+        ensures limits { IfOk result (λ lag. lag.limits ≡ record {
+          threshold = threshold;
+          capacity = capacity;
+          full = full;
+          updates = map (λ row. row.items) updates.items;
+        }) }
         ensures readers { IfOk result (λ lag. length lag.seen ≡ readers) }
-        ensures heavy { IfOk result (λ lag. (lag.heavy.limit ≡ heavy) × (lag.heavy.least ≡ least)) }
+        ensures heavy { IfOk result (λ lag. (lag.fold.heavy.limit ≡ heavy) × (lag.fold.heavy.least ≡ least)) }
         ensures lawful { IfOk result (λ lag. (events : List Event) → HasRun K.stands K.rules lag events →
             IsLawfulCore K.rules lag (run_state K.rules lag events)) }
         ensures conserves { IfOk result (λ lag. (events : List Event) → HasRun K.stands K.rules lag events →
             Conserves K.rules lag (run_state K.rules lag events)) }
     {
-        let workers = updates.len();
-        let (sketches, lanes) = new_workers::<K>(alloc, &shape, threshold, capacity, &updates)?;
-        let fold = Sight::new(alloc, &shape, workers)?;
-        let shown = Sight::new(alloc, &shape, workers)?;
-        let heavy = Heavy::new(alloc, heavy, least)?;
-        let seen = new_fronts(alloc, workers, readers)?;
+        let count = updates.len();
+        let workers = new_workers::<K>(alloc, &shape, threshold, capacity, full, &updates)?;
+        let fold = State::new(alloc, shape, count, heavy, least)?;
+        let shown = nothing_shown(alloc, shape, count)?;
+        let seen = new_fronts(alloc, count, readers)?;
         Ok(Lag {
-            shape,
             threshold,
             capacity,
             full,
             updates,
-            sketches,
-            lanes,
+            workers,
             fold,
             shown,
-            heavy,
-            live: 0,
-            missed: 0,
             seen,
         })
     }
@@ -128,7 +109,7 @@ impl<K: Kind> Lag<K> {
         ensures limits { self.new.limits ≡ self.old.limits }
         ensures readers { length self.new.seen ≡ length self.old.seen }
         ensures shape { self.new.shape ≡ self.old.shape }
-        ensures heavy { (self.new.heavy.limit ≡ self.old.heavy.limit) × (self.new.heavy.least ≡ self.old.heavy.least) }
+        ensures heavy { (self.new.fold.heavy.limit ≡ self.old.fold.heavy.limit) × (self.new.fold.heavy.least ≡ self.old.fold.heavy.least) }
         ensures stands { (events : List Event) → HasRun K.stands K.rules self.old events →
             HasRun K.stands K.rules self.new (events ++ event ∷ []) ×
             (result ≡ reply_to (terms_of K.rules self.old.limits) (length self.old.seen) events event) }
@@ -157,15 +138,8 @@ impl<K: Kind> Lag<K> {
         requires { worker < workers_of self.old }
         ensures { Steps K.stands K.rules self.old self.new (Update worker) result }
     {
-        let place = worker as usize;
         let updates = self.updates.get(worker);
-        take_up(
-            worker,
-            updates,
-            &mut self.sketches[place],
-            &mut self.lanes[place],
-            self.full,
-        )
+        take_up(&mut self.workers[worker as usize], updates)
     }
 
     // The oldest message of the worker's lane is folded.
@@ -173,10 +147,10 @@ impl<K: Kind> Lag<K> {
         requires { worker < workers_of self.old }
         ensures { Steps K.stands K.rules self.old self.new (Take worker) result }
     {
-        match self.lanes[worker as usize].pop() {
+        match take_oldest(&mut self.workers[worker as usize]) {
             None => Reply::Empty,
             Some(message) => {
-                fold_message::<K>(&self.shape, &mut self.fold, &mut self.heavy, &message);
+                self.fold.absorb(&message);
                 Reply::Took {
                     amount: message.amount,
                 }
@@ -184,13 +158,11 @@ impl<K: Kind> Lag<K> {
         }
     }
 
-    // What is folded becomes what is shown.
+    // What is folded is shown.
     fn publish(&mut self) -> Reply
         ensures { Steps K.stands K.rules self.old self.new Publish result }
     {
-        self.shown.copy_from(&self.fold);
-        self.live = self.heavy.len();
-        self.missed = self.heavy.missed();
+        show(&self.fold, &mut self.shown);
         Reply::Published
     }
 
@@ -199,33 +171,47 @@ impl<K: Kind> Lag<K> {
         requires { reader < length self.old.seen }
         ensures { Steps K.stands K.rules self.old self.new (Ask reader) result }
     {
-        copy_items(&mut self.seen[reader as usize], self.shown.front());
+        copy_counts(self.shown.front.as_slice(), &mut self.seen[reader as usize]);
         Reply::Answered
     }
 }
 
-// The sketch and the lane of each worker.
+// The worker for each list of updates.
 fn new_workers<K: Kind>(
     alloc: Global,
     shape: &Shape,
     threshold: u64,
     capacity: u32,
+    full: Full,
     updates: &UpdateRows,
-) -> Result<(Vec<Private<K>>, Vec<Lane>), NoMemory>
+) -> Result<Vec<LagWorker<K>>, NoMemory>
     requires shape { IsShape shape.now }
     requires threshold { 0 < threshold }
-    ensures sketches { IfOk result (λ pair. AllZip (λ row p. IsFreshSketch K.stands K.rules (size_of shape.now) threshold row.items p) updates.now.items pair.0.items) }
-    ensures lanes { IfOk result (λ pair. AllZip (λ row lane. lane ≡ fresh_lane capacity) updates.now.items pair.1.items) }
+    ensures count { IfOk result (λ workers. length workers.items ≡ length updates.now.items) }
+    ensures fresh { IfOk result (λ workers. (w : ℕ) (d : _) → slice_get workers.items w ≡ Some d → IsFreshWorker K.stands
+        (terms_of K.rules (record {
+          threshold = threshold;
+          capacity = capacity;
+          full = full;
+          updates = map (λ row. row.items) updates.now.items;
+        })) (size_of shape.now) w d) }
+    ensures few { IfOk result (λ _. All (λ row. length row.items < 2 ^ 32) updates.now.items) }
 {
-    let mut sketches = Vec::new(alloc);
-    let mut lanes = Vec::new(alloc);
-    'workers: for row in updates.as_slice() {
-        let sketch = Private::new(alloc, shape.rows * shape.columns, threshold, row.len())?;
-        let lane = Lane::new(alloc, capacity)?;
-        push_item(&mut sketches, sketch)?;
-        push_item(&mut lanes, lane)?;
+    let cells = shape.rows * shape.columns;
+    let mut workers = Vec::new(alloc);
+    for number in 0..updates.len() {
+        let worker = new_worker(
+            alloc,
+            number,
+            cells,
+            threshold,
+            capacity,
+            full,
+            updates.get(number).len(),
+        )?;
+        push_item(&mut workers, worker)?;
     }
-    Ok((sketches, lanes))
+    Ok(workers)
 }
 
 // For each reader a front of zeros.
@@ -245,24 +231,4 @@ fn push_item<T: Drop>(items: &mut Vec<T>, item: T) -> Result<(), NoMemory>
     ensures { OnOk result (items.new.items ≡ items.old.items ++ item ∷ []) }
 {
     items.push(item).or(Err(NoMemory))
-}
-
-// Joins a message into what is folded, and notes its key.
-fn fold_message<K: Kind>(shape: &Shape, fold: &mut Sight, heavy: &mut Heavy, message: &Push)
-    requires shape { IsShape shape.now }
-    requires cells { length fold.old.cells ≡ size_of shape.now }
-    requires values { AreValues K.rules fold.old.cells }
-    requires cell { message.now.cell < size_of shape.now }
-    requires amount { K.rules.is_value message.now.amount ≡ true }
-    requires front { message.now.worker < length fold.old.front }
-    requires upto { message.now.worker < length fold.old.upto }
-    requires few { slice_index_or fold.old.front message.now.worker 0 < 2 ^ 32 }
-    ensures fold { fold.new ≡ with_message K.rules.join fold.old message.now }
-    ensures heavy { heavy.new ≡ with_note K.rules shape.now (with_message K.rules.join fold.old message.now).cells heavy.old message.now }
-{
-    fold.add::<K>(message);
-    if K::KEYED {
-        let estimate = K::estimate(shape, fold.cells(), &message.key);
-        heavy.note(message.key, estimate);
-    }
 }

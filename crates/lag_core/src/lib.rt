@@ -1,11 +1,10 @@
-//! The pure core: workers that count updates and push messages into bounded lanes, a fold that
-//! takes them, and readers of what is shown of it. No threads.
+//! The pure core: workers that count updates and push messages into bounded lanes, a state that
+//! they are folded into, and readers of what is shown of it. No threads.
 #![tactic(auto)]
 
 mod lag;
-mod lane;
 mod readings;
-mod sight;
+mod shown;
 mod worker;
 
 pub use lag::Lag;

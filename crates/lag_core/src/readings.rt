@@ -23,18 +23,20 @@ impl<K: Kind> Lag<K> {
         ensures { (events : List Event) → HasRun K.stands K.rules self.now events → let s = run_state K.rules self.now events in
             result ≡ shown_of K.rules (sent_by_each s) (front_of (workers_of self.now) (shown_messages s)) cell }
     {
-        self.shown.cell(cell)
+        self.shown.table.cell(cell)
     }
 
     /// What is shown of a key. For Count-Min it is near what would be, had all matching updates been told.
     pub fn estimate(&self, key: &FlowKey) -> i64
         ensures near { K.sketch ≡ CountMin → AreAmounts self.now.limits.updates →
             (events : List Event) → HasRun K.stands K.rules self.now events → let s = run_state K.rules self.now events in
-            IsNear self.now.limits.threshold self.now.limits.updates (sent_by_each s) (refused_by_each s) (front_of (workers_of self.now) (shown_messages s)) self.now.shape key.now result }
+            IsNear self.now.limits.threshold self.now.limits.updates (sent_by_each s) (refused_by_each s)
+            (front_of (workers_of self.now) (shown_messages s)) self.now.shape key.now result }
         ensures shown { (events : List Event) → HasRun K.stands K.rules self.now events → let s = run_state K.rules self.now events in
-            result ≡ K.rules.estimate self.now.shape (shown_cells K.rules self.now.shape (sent_by_each s) (front_of (workers_of self.now) (shown_messages s))) key.now }
+            result ≡ K.rules.estimate self.now.shape
+            (shown_cells K.rules self.now.shape (sent_by_each s) (front_of (workers_of self.now) (shown_messages s))) key.now }
     {
-        K::estimate(&self.shape, self.shown.cells(), key)
+        self.shown.table.estimate(key)
     }
 
     /// How many messages of the worker are shown.
@@ -43,7 +45,7 @@ impl<K: Kind> Lag<K> {
         ensures { (events : List Event) → HasRun K.stands K.rules self.now events → let s = run_state K.rules self.now events in
             result ≡ slice_index_or (front_of (workers_of self.now) (shown_messages s)) worker 0 }
     {
-        *self.shown.front().get(worker)
+        *self.shown.front.get(worker)
     }
 
     /// One more than the last shown update of the worker, 0 where there is none.
@@ -52,7 +54,7 @@ impl<K: Kind> Lag<K> {
         ensures { (events : List Event) → HasRun K.stands K.rules self.now events → let s = run_state K.rules self.now events in
             result ≡ slice_index_or (uptos_of (workers_of self.now) (shown_messages s)) worker 0 }
     {
-        self.shown.upto(worker)
+        *self.shown.upto.get(worker)
     }
 
     /// How many messages of the worker the reader has seen.
@@ -70,55 +72,60 @@ impl<K: Kind> Lag<K> {
     /// How many messages the worker's lane holds.
     pub fn queued(&self, worker: u32) -> u32
         requires { worker < workers_of self.now }
-        ensures { (events : List Event) → HasRun K.stands K.rules self.now events → let x = worker_in (run_state K.rules self.now events) worker in
+        ensures { (events : List Event) → HasRun K.stands K.rules self.now events
+            → let x = worker_in (run_state K.rules self.now events) worker in
             result ≡ length x.sent - x.taken }
     {
-        self.lanes[worker as usize].len()
+        self.workers[worker as usize].counter.held()
     }
 
     /// What the worker counted of the cell and did not tell.
     pub fn residue(&self, worker: u32, cell: u32) -> i64
         requires worker { worker < workers_of self.now }
         requires cell { cell < size_of self.now.shape }
-        ensures { (events : List Event) → HasRun K.stands K.rules self.now events → let x = worker_in (run_state K.rules self.now events) worker in
+        ensures { (events : List Event) → HasRun K.stands K.rules self.now events
+            → let x = worker_in (run_state K.rules self.now events) worker in
             result ≡ residue K.rules (updates_by (terms_of K.rules self.now.limits) worker) x.sent x.counted cell }
     {
-        self.sketches[worker as usize].residue(cell)
+        self.workers[worker as usize].counter.residue(cell)
     }
 
     /// Whether the push of this update of the worker met a full lane and was left.
     pub fn refused_at(&self, worker: u32, update: u32) -> bool
         requires worker { worker < workers_of self.now }
         requires update { update < length (updates_by (terms_of K.rules self.now.limits) worker) }
-        ensures { (events : List Event) → HasRun K.stands K.rules self.now events → let x = worker_in (run_state K.rules self.now events) worker in
+        ensures { (events : List Event) → HasRun K.stands K.rules self.now events
+            → let x = worker_in (run_state K.rules self.now events) worker in
             result ≡ is_refused update x.refused }
     {
-        self.sketches[worker as usize].refused_at(update)
+        self.workers[worker as usize].refused.get(update)
     }
 
     /// How many heavy keys are shown.
     pub fn live_len(&self) -> u32
-        ensures len { result ≡ self.now.live }
+        ensures len { result ≡ self.now.shown.live }
         ensures stands { (events : List Event) → HasRun K.stands K.rules self.now events → let s = run_state K.rules self.now events in
-            result ≡ length (live_keys K.rules self.now.shape self.now.heavy.limit self.now.heavy.least (shown_messages s)) }
+            result ≡ length (live_keys K.rules self.now.shape self.now.fold.heavy.limit self.now.fold.heavy.least (shown_messages s)) }
     {
-        self.live
+        self.shown.live
     }
 
     /// A shown heavy key.
     pub fn live(&self, place: u32) -> FlowKey
-        requires { place < self.now.live }
+        requires { place < self.now.shown.live }
         ensures { (events : List Event) → HasRun K.stands K.rules self.now events → let s = run_state K.rules self.now events in
-            slice_get (live_keys K.rules self.now.shape self.now.heavy.limit self.now.heavy.least (shown_messages s)) place ≡ Some result }
+            slice_get (live_keys K.rules self.now.shape self.now.fold.heavy.limit self.now.fold.heavy.least
+            (shown_messages s)) place ≡ Some result }
     {
-        self.heavy.entry(place)
+        self.fold.heavy().entry(place)
     }
 
     /// How many shown messages had a heavy key that found no room.
     pub fn missed(&self) -> u64
         ensures { (events : List Event) → HasRun K.stands K.rules self.now events → let s = run_state K.rules self.now events in
-            result ≡ min (missed_keys K.rules self.now.shape self.now.heavy.limit self.now.heavy.least (shown_messages s)) 18446744073709551615 }
+            result ≡ min (missed_keys K.rules self.now.shape self.now.fold.heavy.limit self.now.fold.heavy.least
+            (shown_messages s)) 18446744073709551615 }
     {
-        self.missed
+        self.shown.missed
     }
 }

@@ -1,19 +1,16 @@
-ghost use Rattle.std.specs.Prelude.{◌≡◌, ◌<◌, ◌≤◌, ◌+◌, ℕ, List, length, None, true, false, IsTrue};
-ghost use Rattle.hash_rows.specs.declared.options.Full.{Full};
-ghost use Rattle.hash_rows.specs.declared.options.Full.TheVariants.{Wait};
-ghost use Rattle.push_history.specs.LagRun.{Worker, count_step, updates_by};
-ghost use Rattle.push_history.specs.Pushes.{distance_at};
+ghost use Rattle.std.specs.Prelude.{◌≡◌, ◌<◌, ℕ, IfOk, MatchOption, length, true};
+ghost use Rattle.push_history.specs.Front.{message_at};
+ghost use Rattle.push_history.specs.LagRun.{Worker, count_step, fresh_worker, updates_by};
+ghost use Rattle.push_history.specs.OwnSteps.{with_taken};
 ghost use Rattle.push_history.specs.Updates.{update_at};
-ghost use Rattle.lag_core.specs.Workers.{CanCount, IsWorkerAt, Limits, distance_with, terms_of};
-ghost use Rattle.hash_rows.specs.declared.shape.Push.{Push};
-ghost use Rattle.hash_rows.specs.declared.shape.Update.{Update};
-ghost use Rattle.push_rule.specs.Stands.{StandsFor};
+ghost use Rattle.lag_core.specs.Workers.{CanTakeUp, IsWorkerAt, Limits, is_refusal, terms_of};
 
-use crate::lane::Lane;
-use hash_rows::{Full, Kind, Push, Update};
+use flow_base::NoMemory;
+use hash_rows::{Bits, Full, Kind, Push, Update};
 use listed::Listed;
 use push_history::Reply;
-use push_rule::Private;
+use push_rule::{Counter, Private};
+use std::alloc::Global;
 
 /// The updates of a worker.
 pub type UpdateList = Listed<Update>;
@@ -21,94 +18,99 @@ pub type UpdateList = Listed<Update>;
 /// One list of updates for each worker.
 pub type UpdateRows = Listed<UpdateList>;
 
-/// Takes up the worker's next update.
-pub fn take_up<K: Kind>(
-    worker: u32,
-    updates: &UpdateList,
-    sketch: &mut Private<K>,
-    lane: &mut Lane,
+/// A worker of the core: its counter, and for each of its updates whether the push was refused.
+#[derive(Drop)]
+pub struct LagWorker<K: Kind> {
+    pub counter: Counter<K>,
+    pub refused: Bits,
+}
+
+/// A worker that did nothing yet, with so many cells, a lane of so many messages, and room for so
+/// many updates.
+pub fn new_worker<K: Kind>(
+    alloc: Global,
+    number: u32,
+    cells: u32,
+    threshold: u64,
+    lane: u32,
     full: Full,
-) -> Reply
-    requires { CanCount K.rules updates.now.items sketch.old }
-    ensures can_count { CanCount K.rules updates.now.items sketch.new }
-    ensures stands { (l : Limits) (s : Worker) → let t = terms_of K.rules l in
-        l.full ≡ full → updates_by t worker ≡ updates.now.items →
-        IsWorkerAt K.stands t worker sketch.old lane.old s →
-        IsWorkerAt K.stands t worker sketch.new lane.new (count_step t worker s).0 × (result ≡ (count_step t worker s).1) }
-    ensures cells { length sketch.new.held ≡ length sketch.old.held }
+    updates: u32,
+) -> Result<LagWorker<K>, NoMemory>
+    requires { 0 < threshold }
+    ensures cells { IfOk result (λ worker. length worker.counter.sketch.held ≡ cells) }
+    ensures fresh { IfOk result (λ worker. (l : Limits) → l.threshold ≡ threshold → l.capacity ≡ lane → l.full ≡ full
+        → length (updates_by (terms_of K.rules l) number) ≡ updates
+        → IsWorkerAt K.stands (terms_of K.rules l) number worker fresh_worker) }
 {
-    let next = sketch.counted();
+    let sketch = Private::new(alloc, cells, threshold, updates)?;
+    let room = lane.saturating_add(1).min(updates);
+    let counter = Counter::new(alloc, number, lane, full, sketch, room)?;
+    let refused = Bits::new(alloc, updates)?;
+    Ok(LagWorker { counter, refused })
+}
+
+/// Takes up the worker's next update.
+pub fn take_up<K: Kind>(worker: &mut LagWorker<K>, updates: &UpdateList) -> Reply
+    requires { CanTakeUp K.rules updates.now.items worker.old }
+    ensures cells { length worker.new.counter.sketch.held ≡ length worker.old.counter.sketch.held }
+    ensures stands { (l : Limits) (w : ℕ) (x : Worker) → let t = terms_of K.rules l in updates_by t w ≡ updates.now.items
+        → IsWorkerAt K.stands t w worker.old x
+        → IsWorkerAt K.stands t w worker.new (count_step t w x).0 × (result ≡ (count_step t w x).1) }
+{
+    let next = worker.counter.counted();
     if next >= updates.len() {
         return Reply::Over;
     }
-    let update = *updates.get(next);
-    if must_wait(&update, sketch, lane, full) {
-        return Reply::Waits;
-    }
-    count_next(worker, next, &update, sketch, lane)
+    count(worker, next, updates.get(next))
 }
 
-// Whether the update makes a push due that has to wait for room in the lane.
-fn must_wait<K: Kind>(update: &Update, sketch: &Private<K>, lane: &Lane, full: Full) -> bool
-    requires idle { sketch.now.due ≡ None }
-    requires room { sketch.now.counted < sketch.now.room }
-    requires cell { update.now.cell < length sketch.now.held }
+// Counts the next update, and notes whether its push was refused.
+fn count<K: Kind>(worker: &mut LagWorker<K>, next: u32, update: &Update) -> Reply
+    requires next { next ≡ worker.old.counter.sketch.counted }
+    requires left { worker.old.counter.sketch.counted < worker.old.counter.sketch.room }
+    requires mark { next < length worker.old.refused }
+    requires room { length worker.old.counter.queue < worker.old.counter.room }
+    requires cleared { worker.old.counter.taken ≡ 0 }
+    requires cell { update.now.cell < length worker.old.counter.sketch.held }
     requires value { K.rules.is_value update.now.value ≡ true }
-    ensures wait { IsTrue result → full ≡ Wait }
-    ensures full { IsTrue result → lane.now.capacity ≤ length lane.now.messages }
-    ensures far { IsTrue result → (before : List Update) (messages : List Push) (refused : List ℕ) →
-        StandsFor K.stands K.rules sketch.now before messages refused →
-        sketch.now.threshold ≤ distance_with K.rules messages before update.now }
-    ensures near { result ≡ false → full ≡ Wait → lane.now.capacity ≤ length lane.now.messages →
-        (before : List Update) (messages : List Push) (refused : List ℕ) →
-        StandsFor K.stands K.rules sketch.now before messages refused →
-        distance_with K.rules messages before update.now < sketch.now.threshold }
+    ensures cells { length worker.new.counter.sketch.held ≡ length worker.old.counter.sketch.held }
+    ensures stands { (l : Limits) (w : ℕ) (x : Worker) → let t = terms_of K.rules l in
+        x.counted < length (updates_by t w) → update_at (updates_by t w) x.counted ≡ update.now
+        → IsWorkerAt K.stands t w worker.old x
+        → IsWorkerAt K.stands t w worker.new (count_step t w x).0 × (result ≡ (count_step t w x).1) }
 {
-    match full {
-        Full::Leave => false,
-        Full::Wait => lane.is_full() && sketch.due_with(update.cell, update.value),
+    let reply = worker.counter.count(update);
+    if is_refusal(reply) {
+        worker.refused.set(next);
+        return reply;
+    }
+    reply
+}
+
+// Whether a push was refused.
+fn is_refusal(reply: Reply) -> bool
+    ensures { result ≡ is_refusal reply }
+{
+    match reply {
+        Reply::Refused => true,
+        _ => false,
     }
 }
 
-// Counts the update, and sends the push that it makes due, unless the lane is full.
-fn count_next<K: Kind>(
-    worker: u32,
-    next: u32,
-    update: &Update,
-    sketch: &mut Private<K>,
-    lane: &mut Lane,
-) -> Reply
-    requires idle { sketch.old.due ≡ None }
-    requires room { sketch.old.counted < sketch.old.room }
-    requires cell { update.now.cell < length sketch.old.held }
-    requires value { K.rules.is_value update.now.value ≡ true }
-    ensures idle { sketch.new.due ≡ None }
-    ensures counted { sketch.new.counted ≡ sketch.old.counted + 1 }
-    ensures room { sketch.new.room ≡ sketch.old.room }
-    ensures cells { length sketch.new.held ≡ length sketch.old.held }
-    ensures stands { (l : Limits) (s : Worker) → let t = terms_of K.rules l in
-        s.counted < length (updates_by t worker) → update.now ≡ update_at (updates_by t worker) s.counted → next ≡ s.counted →
-        (l.full ≡ Wait → lane.old.capacity ≤ length lane.old.messages → distance_at t.rules (updates_by t worker) s.sent s.counted < l.threshold) →
-        IsWorkerAt K.stands t worker sketch.old lane.old s →
-        IsWorkerAt K.stands t worker sketch.new lane.new (count_step t worker s).0 × (result ≡ (count_step t worker s).1) }
+/// Takes the oldest message of the worker's lane.
+pub fn take_oldest<K: Kind>(worker: &mut LagWorker<K>) -> Option<Push>
+    requires { worker.old.counter.taken ≡ 0 }
+    ensures cells { length worker.new.counter.sketch.held ≡ length worker.old.counter.sketch.held }
+    ensures stands { (l : Limits) (w : ℕ) (x : Worker) → let t = terms_of K.rules l in IsWorkerAt K.stands t w worker.old x
+        → MatchOption result ((x.taken ≡ length x.sent) × IsWorkerAt K.stands t w worker.new x)
+        (λ message. (x.taken < length x.sent) × (message_at x.sent x.taken ≡ message)
+        × IsWorkerAt K.stands t w worker.new (with_taken x 1)) }
 {
-    match sketch.count(update.cell, update.value) {
-        None => Reply::Counted,
-        Some(_) if lane.is_full() => {
-            sketch.refused();
-            Reply::Refused
-        }
-        Some(amount) => {
-            sketch.sent();
-            lane.push(Push {
-                worker,
-                packet: update.packet,
-                update: next,
-                key: update.key,
-                cell: update.cell,
-                amount,
-            });
-            Reply::Pushed { amount }
-        }
+    if worker.counter.held() == 0 {
+        return None;
     }
+    let message = worker.counter.messages()[0];
+    worker.counter.take(1);
+    worker.counter.clear();
+    Some(message)
 }

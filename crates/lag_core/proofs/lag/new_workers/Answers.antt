@@ -1,45 +1,43 @@
-use Rattle.std.proofs.Common.{◌≡◌, ◌∙◌, ◌<◌, ◌≤◌, ap, subst, length, arith, List, get_or}
-use Rattle.std.specs.List.{AllZip}
-use Rattle.std.proofs.lemmas.List.{take_all}
+use Rattle.std.proofs.Common.{◌≡◌, ◌∙◌, ℕ, List, [], ◌∷◌, Some, inl, inr, length, get_or, map, slice_get, refl, sym, ap, subst, arith, length-append}
+use Rattle.std.proofs.lemmas.Bool.{cases_lt}
+use Rattle.std.proofs.lemmas.Option.{slice_get-get_or}
 use Rattle.listed.specs.Listed.{Listed}
 use Rattle.hash_rows.specs.declared.shape.Update.{Update}
 use Rattle.hash_rows.specs.Shapes.{size_of}
-use Rattle.push_rule.specs.Stands.{PrivateView}
-use Rattle.lag_core.specs.Lanes.{Queue, fresh_lane}
-use Rattle.lag_core.specs.Workers.{IsFreshSketch}
-use Rattle.lag_core.proofs.Sizes.{zip_grown}
+use Rattle.lag_core.specs.declared.worker.LagWorker.{LagWorker}
+use Rattle.lag_core.specs.Workers.{IsFreshWorker, Limits, terms_of}
+use Rattle.lag_core.proofs.CoreSteps.{row_at}
+use Rattle.lag_core.proofs.Slots.{slot_push}
 use Rattle.lag_core.proofs.lag.new_workers.Goals as goal
 
-pub workers-preserved : goal.workers-preserved
-workers-preserved g c =
+pub loop-number-preserved : goal.loop-number-preserved
+loop-number-preserved g c =
     let rows = c.args.updates.now.items in
-    let row = c.row-item.result in
-    let below : c.workers.row-index < length rows = omega (arith, c.workers-test.true, ap (λ (l : List (Listed Update)). length l) c.as_slice-row-items.ensures) in
-    let is = c.row-item.is ∙ ap (λ (l : List (Listed Update)). get_or l c.workers.row-index row) c.as_slice-row-items.ensures in (
-      zip_grown (λ (row : Listed Update) (p : PrivateView g.row.K-Held.Denot). IsFreshSketch g.K.Kind.stands g.K.Kind.rules (size_of c.args.shape.now) c.args.threshold row.items p)
-          rows c.workers.row-index row c.workers.sketches.items c.push_item.new.items.items c.in_ok-sketch.sketch below is c.workers.invariant.0
-          (record {
-            sketch = c.in_ok-sketch.ensures.fresh;
-            idle = c.in_ok-sketch.ensures.idle;
-            held = c.in_ok-sketch.ensures.cells;
-            threshold = c.in_ok-sketch.ensures.threshold;
-            room = c.in_ok-sketch.ensures.room ∙ c.len.ensures;
-            small = omega (arith, c.len.ensures);
-          }) c.in_ok-push_item.ensures,
-      zip_grown (λ (row : Listed Update) (lane : Queue). lane ≡ fresh_lane c.args.capacity) rows c.workers.row-index row c.workers.lanes.items c.push_item-in-workers.new.items.items c.in_ok-lane.lane
-          below is c.workers.invariant.1 (λ i. record { messages = c.in_ok-lane.ensures.empty i; capacity = c.in_ok-lane.ensures.capacity i }) c.in_ok-push_item-2.ensures,
+    let l : Limits = record { threshold = c.args.threshold; capacity = c.args.capacity; full = c.args.full; updates = map (λ (row : Listed Update). row.items) rows } in
+    let n = c.loop-number.number in
+    let was = c.loop-number.invariant in
+    let worker = c.in_ok-worker.worker in
+    let IsFresh : ℕ → LagWorker g.row.K.Denot g.row.K-Held.Denot → Type 0 = λ w d. IsFreshWorker g.K.Kind.stands (terms_of g.K.Kind.rules l) (size_of c.args.shape.now) w d in
+    let fresh : IsFresh n worker = record {
+      fresh = c.in_ok-worker.ensures.fresh l refl refl refl (ap length (row_at rows n c.get.result.now c.get.ensures) ∙ sym c.len.ensures);
+      its_cells = c.in_ok-worker.ensures.cells;
+    } in
+    let pushed = c.in_ok-push_item.ensures in (
+      omega (arith, ap length pushed, length-append c.loop-number.workers.items (worker ∷ []), was.0),
+      (λ w d at. elim (slot_push c.loop-number.workers.items w worker d (subst (λ (xs : List (LagWorker g.row.K.Denot g.row.K-Held.Denot)). slice_get xs w ≡ Some d) pushed at)) [
+        | inl old ↦ was.1 w d old
+        | inr new ↦ subst (λ (z : LagWorker g.row.K.Denot g.row.K-Held.Denot). IsFresh w z) new.1 (subst (λ (k : ℕ). IsFresh k worker) (sym was.0 ∙ new.0) fresh)
+      ]),
+      (λ w row lt at. elim (cases_lt w n) [
+        | inl early ↦ was.2 w row early at
+        | inr late ↦
+            let same : n ≡ w = omega (arith, late, lt) in
+            let there : slice_get rows w ≡ Some c.get.result.now = subst (λ (k : ℕ). slice_get rows k ≡ Some c.get.result.now) same c.get.ensures in
+            let e : c.get.result.now ≡ row = cc in
+            omega (arith, c.len.ensures, ap (λ (r : Listed Update). length r.items) e)
+      ]),
     )
 
-pub returns-clause-sketches : goal.returns-clause-sketches
-returns-clause-sketches g c =
-    let rows = c.args.updates.now.items in
-    let end : length rows ≤ c.workers.row-index = omega (arith, c.workers-test.false, ap (λ (l : List (Listed Update)). length l) c.as_slice-row-items.ensures) in
-    subst (λ (l : List (Listed Update)). AllZip (λ (row : Listed Update) (p : PrivateView g.row.K-Held.Denot). IsFreshSketch g.K.Kind.stands g.K.Kind.rules (size_of c.args.shape.now) c.args.threshold row.items p) l c.workers.sketches.items)
-    (take_all c.workers.row-index rows end) c.workers.invariant.0
-
-pub returns-clause-lanes : goal.returns-clause-lanes
-returns-clause-lanes g c =
-    let rows = c.args.updates.now.items in
-    let end : length rows ≤ c.workers.row-index = omega (arith, c.workers-test.false, ap (λ (l : List (Listed Update)). length l) c.as_slice-row-items.ensures) in
-    subst (λ (l : List (Listed Update)). AllZip (λ (row : Listed Update) (lane : Queue). lane ≡ fresh_lane c.args.capacity) l c.workers.lanes.items)
-    (take_all c.workers.row-index rows end) c.workers.invariant.1
+pub returns-clause-few : goal.returns-clause-few
+returns-clause-few g c = λ k d lt.
+    c.loop-number.invariant.2 k (get_or c.args.updates.now.items k d) (omega (arith, lt, c.loop-number-test.false, c.len-number-end.ensures)) (slice_get-get_or c.args.updates.now.items k d lt)

@@ -1,28 +1,14 @@
-use Rattle.std.proofs.Common.{rules, ◌≡◌, ◌∙◌, ◌<◌, List, sym, subst, take, arith, w64, to_z, of_z}
-use Rattle.push_history.specs.declared.event.Event.{Event}
-use Rattle.push_history.specs.LagRun.{updates_by, worker_in}
-use Rattle.push_history.specs.Residue.{residue}
-use Rattle.lag_core.specs.declared.lag.Lag.TheView.{view}
-use Rattle.lag_core.specs.Lags.{Core, HasRun, run_state, workers_of}
-use Rattle.lag_core.specs.Workers.{terms_of}
-use Rattle.lag_core.proofs.Reading.{residue_first}
-use Rattle.lag_core.proofs.Sizes.{read_at, some_at}
+use Rattle.std.proofs.Common.{◌≡◌, ◌∙◌, refl, rules, w64, to_z, of_z}
+use Rattle.lag_core.proofs.Calls.{residue_read, residue_there, worker_at}
 use Rattle.lag_core.proofs.lag.Lag.residue.Goals as goal
+
+pub residue-requires-after_bounds : goal.residue-requires-after_bounds
+residue-requires-after_bounds g c κs within =
+    residue_there g.K.Kind.stands g.K.Kind.rules _ _ c.self.view_is _ c.self.invariant.1 refl c.args.worker c.index.result.now
+    (worker_at g.K.Kind.stands g.K.Kind.rules _ _ c.self.view_is _ c.self.invariant.1 c.args.worker c.index.result.now c.requires.worker c.index.ensures) c.args.cell c.requires.cell
 
 pub returns : goal.returns
 returns g c =
-    let r = g.K.Kind.rules in
-    let V : Core g.row.K-Held.Denot = view g.row.K.Denot g.row.K-Held.Denot g.K.Kind c.self.inside in
-    let h = c.self.invariant.1 in
-    let w = c.args.worker in
-    let below : w < workers_of V = subst (λ (o : Core g.row.K-Held.Denot). w < workers_of o) (sym c.self.view_is) c.requires.worker in
-    let sketch_at = read_at c.self.inside.sketches.items w c.index.result.now (omega (arith, below, h.sketches)) c.index.ensures in
-    let lane = some_at c.self.inside.lanes.items w (omega (arith, below, h.lanes)) in
     let exact : to_z w64 (of_z w64 c.residue.result) ≡ c.residue.result = search rules in
-    subst (λ (o : Core g.row.K-Held.Denot). (events : List Event) → HasRun g.K.Kind.stands r o events
-    → to_z w64 (of_z w64 c.residue.result) ≡ residue r (updates_by (terms_of r o.limits) w) (worker_in (run_state r o events) w).sent (worker_in (run_state r o events) w).counted c.args.cell) c.self.view_is
-    (λ events at.
-    let x = worker_in (run_state r V events) w in
-    let its = at.each w c.index.result.now lane.0 sketch_at lane.1 in
-    exact ∙ c.residue.ensures.stands (take x.counted (updates_by (terms_of r V.limits) w)) x.sent x.refused its.sketch
-    ∙ residue_first r (updates_by (terms_of r V.limits) w) x.sent x.counted c.args.cell its.within)
+    residue_read g.K.Kind.stands g.K.Kind.rules _ _ c.self.view_is c.args.worker c.index.result.now
+    (worker_at g.K.Kind.stands g.K.Kind.rules _ _ c.self.view_is _ c.self.invariant.1 c.args.worker c.index.result.now c.requires.worker c.index.ensures) c.args.cell _ (λ t k x is keeps. exact ∙ c.residue.ensures.residue t k x is keeps)
