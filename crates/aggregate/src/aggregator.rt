@@ -103,7 +103,8 @@ impl<K: Kind> Aggregator<K> {
         ensures outs { self.new.outs ≡ self.old.outs }
         ensures held { MatchResult result (λ _. self.new.held ≡ None) (λ _. self.new.held ≡ Some message) }
         ensures published { self.new.writer.published ≡ self.old.writer.published }
-        ensures kept { kept_by self.new ≡ (if fits K.rules self.old.writer.layout message then kept_by self.old ++ message ∷ [] else kept_by self.old) }
+        ensures kept { kept_by self.new ≡ (if fits K.rules self.old.writer.layout message then kept_by self.old
+            ++ message ∷ [] else kept_by self.old) }
     {
         if !fits_writer(&self.writer, &message) {
             return Ok(());
@@ -250,7 +251,8 @@ fn drop_lane<R: Wait>(rt: &R, outs: &mut OutPasses, lanes: &[Lane], place: u32, 
     requires ends { AreEnds lanes.now outs.old.items }
     requires place { place < length lanes.now }
     ensures ends { AreEnds lanes.now outs.new.items }
-    ensures took { (more : List Push) × (takens outs.new.items ≡ slice_set (takens outs.old.items) place (taken_at (takens outs.old.items) place ++ more))
+    ensures took { (more : List Push)
+        × (takens outs.new.items ≡ slice_set (takens outs.old.items) place (taken_at (takens outs.old.items) place ++ more))
         × (length more ≤ batch) × (result ≡ length more) }
 {
     for count in 0..batch {

@@ -17,7 +17,8 @@ pub fn take_at<R: Wait>(rt: &R, outs: &mut OutPasses, lanes: &[Lane], place: u32
     ensures ends { AreEnds lanes.now outs.new.items }
     ensures taken { MatchOption result
         (takens outs.new.items ≡ takens outs.old.items)
-        (λ message. takens outs.new.items ≡ slice_set (takens outs.old.items) place (slice_index_or (takens outs.old.items) place [] ++ message ∷ [])) }
+        (λ message. takens outs.new.items ≡ slice_set (takens outs.old.items) place
+        (slice_index_or (takens outs.old.items) place [] ++ message ∷ [])) }
 {
     lanes[place as usize].take(rt, outs.get_mut(place))
 }

@@ -39,7 +39,8 @@ true_cells r shape updates messages front = map (true_of r updates messages fron
 -- no worker's last matching update of the cell was refused
 abbrev pub NoneRefused : List (List Update) → List (List Push) → List (List ℕ) → List ℕ → ℕ → Type 0
 NoneRefused updates messages refused front cell =
-    (w k : ℕ) → IsLastOf (updates_of_worker updates w) (matching messages front w) cell k → is_refused k (slice_index_or refused w []) ≡ false
+    (w k : ℕ) → IsLastOf (updates_of_worker updates w) (matching messages front w) cell k
+    → is_refused k (slice_index_or refused w []) ≡ false
 
 -- what updates come to in a cell
 abbrev pub amount_in : ℕ → List Update → ℕ
@@ -51,15 +52,19 @@ pub record AreAmounts (updates : List (List Update)) : Type 0 where
   pub total : (cell : ℕ) → sum_by (amount_in cell) updates < 2 ^ 63
 
 -- lawful messages of all workers over such updates, and a front of them
-pub record AreCounted (threshold : ℕ) (updates : List (List Update)) (messages : List (List Push)) (refused : List (List ℕ)) (front : List ℕ) : Type 0 where
+pub record AreCounted (threshold : ℕ) (updates : List (List Update)) (messages : List (List Push)) (refused : List (List ℕ))
+    (front : List ℕ) : Type 0 where
   pub workers : length messages ≡ length updates
   pub is_front : IsFront messages front
-  pub pushes : (w : ℕ) → w < length updates → ArePushes (rules_of CountMin) threshold (updates_of_worker updates w) (sent_by messages w) (slice_index_or refused w [])
+  pub pushes : (w : ℕ) → w < length updates
+      → ArePushes (rules_of CountMin) threshold (updates_of_worker updates w) (sent_by messages w) (slice_index_or refused w [])
   pub amounts : AreAmounts updates
 
 -- an answer for a key is at most the true estimate; where no worker's last matching update of a cell of the key was
 -- refused, it falls short by at most the number of workers times one less than the threshold
-pub record IsNear (threshold : ℕ) (updates : List (List Update)) (messages : List (List Push)) (refused : List (List ℕ)) (front : List ℕ) (shape : Shape) (key : FlowKey) (answer : ℤ) : Type 0 where
+pub record IsNear (threshold : ℕ) (updates : List (List Update)) (messages : List (List Push)) (refused : List (List ℕ)) (front : List ℕ)
+    (shape : Shape) (key : FlowKey) (answer : ℤ) : Type 0 where
   pub below : answer ≤ℤ count_min_estimate shape (true_cells (rules_of CountMin) shape updates messages front) key
   pub short : 1 ≤ threshold → ((row : ℕ) → row < shape.rows → NoneRefused updates messages refused front (cell_of shape key row))
-      → count_min_estimate shape (true_cells (rules_of CountMin) shape updates messages front) key ≤ℤ (answer +ℤ pos (length updates * (threshold - 1)))
+      → count_min_estimate shape (true_cells (rules_of CountMin) shape updates messages front) key ≤ℤ
+      (answer +ℤ pos (length updates * (threshold - 1)))

@@ -14,11 +14,13 @@ ghost use Rattle.bracket.specs.Bracket.{AreCounted, NoneRefused, true_cells};
 /// front, and where no worker's last such update of a cell of the key was refused, it falls short of
 /// it by at most the number of workers times one less than the threshold.
 pub fn answers_are_bracketed()
-    ensures below { (threshold : ℕ) (updates : List (List Update)) (messages : List (List Push)) (refused : List (List ℕ)) (front : List ℕ) →
+    ensures below { (threshold : ℕ) (updates : List (List Update)) (messages : List (List Push)) (refused : List (List ℕ))
+        (front : List ℕ) →
         AreCounted threshold updates messages refused front → (shape : Shape) (key : FlowKey) →
         count_min_estimate shape (shown_cells (rules_of CountMin) shape messages front) key
         ≤ℤ count_min_estimate shape (true_cells (rules_of CountMin) shape updates messages front) key }
-    ensures short { (threshold : ℕ) (updates : List (List Update)) (messages : List (List Push)) (refused : List (List ℕ)) (front : List ℕ) →
+    ensures short { (threshold : ℕ) (updates : List (List Update)) (messages : List (List Push)) (refused : List (List ℕ))
+        (front : List ℕ) →
         AreCounted threshold updates messages refused front → (shape : Shape) (key : FlowKey) → 1 ≤ threshold →
         ((row : ℕ) → row < shape.rows → NoneRefused updates messages refused front (cell_of shape key row)) →
         count_min_estimate shape (true_cells (rules_of CountMin) shape updates messages front) key

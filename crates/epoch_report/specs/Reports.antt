@@ -10,7 +10,8 @@ use Rattle.epoch_run.specs.Epochs.{AreEpochs, epoch_count, sketch_table}
 use Rattle.epoch_report.specs.declared.report.EpochReport.{EpochReport}
 
 -- the report tells what was read, each epoch by its own packets and those of the epoch before, and what the table of all packets says
-pub record IsEpochReport (packets : List Packet) (records : ℕ) (skipped : Tallies) (cut size change : ℕ) (o : Options) (r : EpochReport) : Type 0 where
+pub record IsEpochReport (packets : List Packet) (records : ℕ) (skipped : Tallies) (cut size change : ℕ) (o : Options)
+    (r : EpochReport) : Type 0 where
   pub shape : r.shape ≡ o.shape
   pub amount : r.amount ≡ o.amount
   pub records_are : r.records ≡ records

@@ -10,6 +10,8 @@ ghost use Rattle.epoch_report.specs.declared.report.EpochReport.{EpochReport};
 /// A capture's epochs have one text, whoever counted their packets, in rounds or in threads. A law: it
 /// does nothing when it runs.
 pub fn one_report()
-    ensures { (packets : List Packet) (records : ℕ) (skipped : Tallies) (cut size change : ℕ) (o p : Options) (r s : EpochReport) → AskForOneReport o p
-        → IsEpochReport packets records skipped cut size change o r → IsEpochReport packets records skipped cut size change p s → report_text r ≡ report_text s }
+    ensures { (packets : List Packet) (records : ℕ) (skipped : Tallies) (cut size change : ℕ) (o p : Options) (r s : EpochReport)
+        → AskForOneReport o p
+        → IsEpochReport packets records skipped cut size change o r → IsEpochReport packets records skipped cut size change p s
+        → report_text r ≡ report_text s }
 {}

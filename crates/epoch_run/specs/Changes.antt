@@ -33,7 +33,8 @@ pub record AreChanges (before after : FlowKey → ℤ) (least : ℕ) (keys : Lis
   pub changes_are : changes ≡ map (change_by before after) flows
 
 -- how many changes there are, and the first of them, at most `most`
-pub record AreGreatest (before after : FlowKey → ℤ) (least : ℕ) (keys : List FlowKey) (most count : ℕ) (changes : List Change) : Type 0 where
+pub record AreGreatest (before after : FlowKey → ℤ) (least : ℕ) (keys : List FlowKey) (most count : ℕ)
+    (changes : List Change) : Type 0 where
   pub all : List Change
   pub all_changes : AreChanges before after least keys all
   pub number : count ≡ length all

@@ -43,12 +43,14 @@ sketch_table shape packets = sequential_table (rules_of CountSketch) shape packe
 -- what changed from the epoch before to the next, with these packets each
 abbrev pub HasChanged : ℕ → Options → List Packet → List Packet → ℕ → List Change → Type 0
 HasChanged change o before here changed changes =
-    AreGreatest (estimates_of (sketch_table o.shape before)) (estimates_of (sketch_table o.shape here)) change (keys_of (before ++ here)) o.heavy changed changes
+    AreGreatest (estimates_of (sketch_table o.shape before)) (estimates_of (sketch_table o.shape here)) change
+    (keys_of (before ++ here)) o.heavy changed changes
 
 -- the changes of epoch e: before the first epoch there is none to compare it with
 abbrev pub HasChanges : ℕ → ℕ → Options → List Packet → ℕ → ℕ → List Change → Type 0
 HasChanges size change o packets zero changed changes = (changed ≡ 0) × (changes ≡ [])
-HasChanges size change o packets (suc e) changed changes = HasChanged change o (epoch_packets size packets e) (epoch_packets size packets (suc e)) changed changes
+HasChanges size change o packets (suc e) changed changes = HasChanged change o (epoch_packets size packets e)
+    (epoch_packets size packets (suc e)) changed changes
 
 -- what the table of these packets says of them
 pub record IsSettled (o : Options) (here : List Packet) (epoch : Epoch) : Type 0 where
@@ -71,7 +73,8 @@ pub record AreEpochs (size change : ℕ) (o : Options) (packets : List Packet) (
 abbrev pub IsJoined : ℕ → Shape → List Packet → TableView → Type 0
 IsJoined size shape packets whole =
     (cell : ℕ) → cell < size_of shape → value_at whole.cells cell
-    ≡ joined_of (rules_of CountSketch) (map (λ e. value_at (sketch_table shape (epoch_packets size packets e)).cells cell) (range_with_len 0 (epoch_count size packets)))
+    ≡ joined_of (rules_of CountSketch) (map (λ e. value_at (sketch_table shape (epoch_packets size packets e)).cells cell)
+    (range_with_len 0 (epoch_count size packets)))
 
 -- all epochs, and the table of all packets, which is the join of the epochs' tables
 pub record IsEpochs (size change : ℕ) (o : Options) (packets : List Packet) (epochs : List Epoch) (whole : TableView) : Type 0 where

@@ -17,9 +17,12 @@ ghost use Rattle.fold_law.specs.Folds.{IsFoldOf};
 pub fn fold_is_lawful()
     ensures heavy { (packets : List Packet) (o : Options) (messages : List (List Push)) (refused : List (List ℕ)) (folded : List Push) →
         IsLawful o → total_amount packets < 2 ^ 63 → length messages ≡ o.workers →
-        ((w : ℕ) → w < o.workers → LawfulPushes (rules_in o) w o.threshold o.lane o.full (updates_by_options packets o w) (sent_by messages w) (slice_index_or refused w [])) →
+        ((w : ℕ) → w < o.workers
+        → LawfulPushes (rules_in o) w o.threshold o.lane o.full (updates_by_options packets o w) (sent_by messages w)
+        (slice_index_or refused w [])) →
         IsFoldOf messages folded →
-        IsLawfulHeavy o messages (live_keys (rules_in o) o.shape o.heavy o.least folded) (missed_keys (rules_in o) o.shape o.heavy o.least folded) }
+        IsLawfulHeavy o messages (live_keys (rules_in o) o.shape o.heavy o.least folded)
+        (missed_keys (rules_in o) o.shape o.heavy o.least folded) }
     ensures fronts { (workers n m : ℕ) (folded : List Push) → n ≤ m →
         NoFurther (front_of workers (take n folded)) (front_of workers (take m folded)) }
 {}

@@ -13,7 +13,8 @@ use Rattle.push_history.specs.Pushes.{distance_at, is_refused}
 -- update n is told where its distance reaches the threshold and it isn't refused
 unfoldable pub with_next : Rules → ℕ → ℕ → List Update → List ℕ → ℕ → List Push → List Push
 with_next r w T updates refused n messages =
-    if nat_lt (distance_at r updates messages n) T || is_refused n refused then messages else messages ++ message_of r w updates messages n ∷ []
+    if nat_lt (distance_at r updates messages n) T || is_refused n refused then messages else messages
+    ++ message_of r w updates messages n ∷ []
 
 -- the messages of the first n updates
 abbrev pub given_before : Rules → ℕ → ℕ → List Update → List ℕ → ℕ → List Push

@@ -67,8 +67,10 @@ pub record AreLaws (r : Rules) : Type 0 where
   pub packet_value : (shape : Shape) (packet : Packet) (row : ℕ) → packet.amount < 2 ^ 32 → r.is_value (r.value shape packet row) ≡ true
   pub join_zero : (a : ℤ) → r.is_value a ≡ true → r.join (pos 0) a ≡ a
   pub join_comm : (a b : ℤ) → r.is_value a ≡ true → r.is_value b ≡ true → r.join a b ≡ r.join b a
-  pub join_assoc : (a b c : ℤ) → r.is_value a ≡ true → r.is_value b ≡ true → r.is_value c ≡ true → r.join (r.join a b) c ≡ r.join a (r.join b c)
-  pub join_gap : (told whole : ℤ) → r.is_value told ≡ true → r.is_value whole ≡ true → r.is_behind told whole ≡ true → r.join told (r.gap told whole) ≡ whole
+  pub join_assoc : (a b c : ℤ) → r.is_value a ≡ true → r.is_value b ≡ true → r.is_value c ≡ true
+      → r.join (r.join a b) c ≡ r.join a (r.join b c)
+  pub join_gap : (told whole : ℤ) → r.is_value told ≡ true → r.is_value whole ≡ true → r.is_behind told whole ≡ true
+      → r.join told (r.gap told whole) ≡ whole
   pub gap_self : (a : ℤ) → r.is_value a ≡ true → r.gap a a ≡ pos 0
   pub distance_self : (a : ℤ) → r.is_value a ≡ true → r.distance a a ≡ 0
   pub behind_zero : (a : ℤ) → r.is_value a ≡ true → r.is_behind (pos 0) a ≡ true

@@ -14,7 +14,8 @@ joined_of r values = fold r.join (pos 0) values
 
 -- the values of a packet in the rows in which its hash names the cell
 unfoldable pub packet_values : Rules → Shape → ℕ → Packet → List ℤ
-packet_values r shape cell packet = map (λ row. r.value shape packet row) (filter (λ row. cell_of shape packet.key row == cell) (rows_of shape))
+packet_values r shape cell packet = map (λ row. r.value shape packet row)
+    (filter (λ row. cell_of shape packet.key row == cell) (rows_of shape))
 
 -- the values of all packets and rows whose hash names the cell
 unfoldable pub cell_values : Rules → Shape → List Packet → ℕ → List ℤ

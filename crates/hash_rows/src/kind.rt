@@ -99,7 +99,8 @@ pub trait Kind: Drop + Send + Sync {
     ghost fresh_stands: { stands fresh_held (pos 0) (pos 0) };
 
     /// A held value stands for two values, the told one behind the whole.
-    ghost stands_for_values: { (h : Self.Held) (told whole : ℤ) → stands h told whole → (rules.is_value told ≡ true) × (rules.is_value whole ≡ true) × (rules.is_behind told whole ≡ true) };
+    ghost stands_for_values: { (h : Self.Held) (told whole : ℤ) → stands h told whole → (rules.is_value told ≡ true)
+        × (rules.is_value whole ≡ true) × (rules.is_behind told whole ≡ true) };
 
     ghost small_is: { (h : Self.Held) (told whole : ℤ) → stands h told whole → small_of h ≡ rules.small told whole };
 

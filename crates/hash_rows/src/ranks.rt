@@ -18,7 +18,8 @@ impl RankHeld {
     }
 
     pub fn counted(self, value: i64) -> RankHeld
-        ensures { (told whole : ℤ) → is_rank value ≡ true → StandsForRanks self told whole → StandsForRanks result told (rank_join whole value) }
+        ensures { (told whole : ℤ) → is_rank value ≡ true → StandsForRanks self told whole
+            → StandsForRanks result told (rank_join whole value) }
     {
         let whole = match u8::try_from(value) {
             Ok(rank) => self.whole.max(rank),
@@ -32,7 +33,8 @@ impl RankHeld {
 
     /// How far the whole is above what was told, and what joins that to the whole.
     pub fn unsent(self) -> (u64, i64)
-        ensures { (told whole : ℤ) → StandsForRanks self told whole → (result.0 ≡ rank_distance told whole) × (result.1 ≡ rank_gap told whole) }
+        ensures { (told whole : ℤ) → StandsForRanks self told whole → (result.0 ≡ rank_distance told whole)
+            × (result.1 ≡ rank_gap told whole) }
     {
         if self.told < self.whole {
             (u64::from(self.whole - self.told), i64::from(self.whole))

@@ -19,7 +19,8 @@ impl SumHeld {
     }
 
     pub fn counted(self, value: i64) -> SumHeld
-        ensures { (told whole : ℤ) → is_sum value ≡ true → StandsForSums self told whole → StandsForSums result told (sum_join whole value) }
+        ensures { (told whole : ℤ) → is_sum value ≡ true → StandsForSums self told whole
+            → StandsForSums result told (sum_join whole value) }
     {
         SumHeld {
             gap: self.gap.wrapping_add(value),
@@ -28,7 +29,8 @@ impl SumHeld {
 
     /// How far the whole is from what was told, and the gap.
     pub fn unsent(self) -> (u64, i64)
-        ensures { (told whole : ℤ) → StandsForSums self told whole → (result.0 ≡ sum_distance told whole) × (result.1 ≡ sum_gap told whole) }
+        ensures { (told whole : ℤ) → StandsForSums self told whole → (result.0 ≡ sum_distance told whole)
+            × (result.1 ≡ sum_gap told whole) }
     {
         (self.gap.unsigned_abs(), self.gap)
     }

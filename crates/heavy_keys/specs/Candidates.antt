@@ -42,7 +42,8 @@ in_order ranks = fold (insert_key rank_order) [] ranks
 
 -- the heavy ones of these keys are those of the candidates in the lists, in the order in which they were found, and
 -- the first of their ranks are known
-pub record AreFound (estimate_of : FlowKey → ℤ) (least : ℤ) (most : ℕ) (packets : List Packet) (keys : List FlowKey) (lists : List (Vec Candidate)) (top : List Rank) : Type 0 where
+pub record AreFound (estimate_of : FlowKey → ℤ) (least : ℤ) (most : ℕ) (packets : List Packet) (keys : List FlowKey)
+    (lists : List (Vec Candidate)) (top : List Rank) : Type 0 where
   pub candidates : List Candidate
   pub buckets : AreBuckets candidates lists
   pub heavy : AreHeavy estimate_of least keys (ranks_of estimate_of packets candidates)
@@ -50,7 +51,8 @@ pub record AreFound (estimate_of : FlowKey → ℤ) (least : ℤ) (most : ℕ) (
   pub each : All (IsCandidate packets) candidates
 
 -- the same of the first packets, and of some others that were weighed before
-pub record AreFoundUpTo (estimate_of : FlowKey → ℤ) (least : ℤ) (most : ℕ) (packets : List Packet) (count : ℕ) (lists : List (Vec Candidate)) (top : List Rank) : Type 0 where
+pub record AreFoundUpTo (estimate_of : FlowKey → ℤ) (least : ℤ) (most : ℕ) (packets : List Packet) (count : ℕ)
+    (lists : List (Vec Candidate)) (top : List Rank) : Type 0 where
   pub others : List FlowKey
   pub theirs : (key : FlowKey) → Contains others key → Contains (map (λ p. p.key) packets) key
   pub found : AreFound estimate_of least most packets (others ++ map (λ p. p.key) (take count packets)) lists top

@@ -17,11 +17,14 @@ IsBefore a b = (b.estimate <ℤ a.estimate) ⊎ ((a.estimate ≡ b.estimate) × 
 -- the flows are in order, and they are the keys whose estimate is at least `least`, each once with its estimate
 pub record IsFinalHeavy (estimate_of : FlowKey → ℤ) (least : ℤ) (keys : List FlowKey) (flows : List Flow) : Type 0 where
   pub sorted : AllPairs IsBefore flows
-  pub sound : (flow : Flow) → Contains flows flow → Contains keys flow.key × (flow.estimate ≡ estimate_of flow.key) × (least ≤ℤ flow.estimate)
-  pub whole : (key : FlowKey) → Contains keys key → least ≤ℤ estimate_of key → Contains flows (record { key = key; estimate = estimate_of key })
+  pub sound : (flow : Flow) → Contains flows flow → Contains keys flow.key × (flow.estimate ≡ estimate_of flow.key)
+      × (least ≤ℤ flow.estimate)
+  pub whole : (key : FlowKey) → Contains keys key → least ≤ℤ estimate_of key
+      → Contains flows (record { key = key; estimate = estimate_of key })
 
 -- how many flows are heavy, and the first of them, at most `most`
-pub record AreHeaviest (estimate_of : FlowKey → ℤ) (least : ℤ) (keys : List FlowKey) (most : ℕ) (count : ℕ) (flows : List Flow) : Type 0 where
+pub record AreHeaviest (estimate_of : FlowKey → ℤ) (least : ℤ) (keys : List FlowKey) (most : ℕ) (count : ℕ)
+    (flows : List Flow) : Type 0 where
   pub all : List Flow
   pub all_heavy : IsFinalHeavy estimate_of least keys all
   pub number : count ≡ length all

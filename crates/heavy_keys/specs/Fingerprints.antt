@@ -21,4 +21,5 @@ address_fingerprint address =
 -- the fingerprint of a key
 unfoldable pub fingerprint_of : FlowKey → ℕ
 fingerprint_of (V4 src dst sport dport proto) = ends_fingerprint (src * 4294967296 + dst) (sport * 65536 + dport)
-fingerprint_of (V6 src dst sport dport proto) = ends_fingerprint (bit_xor (times_golden (address_fingerprint src)) (address_fingerprint dst)) (sport * 65536 + dport)
+fingerprint_of (V6 src dst sport dport proto) = ends_fingerprint
+    (bit_xor (times_golden (address_fingerprint src)) (address_fingerprint dst)) (sport * 65536 + dport)

@@ -17,4 +17,5 @@ is_shared bits candidate = is_set bits (bit_of candidate.fingerprint (length bit
 
 -- of so many bits those are set whose fingerprint two of the candidates have, and maybe more
 abbrev pub AreShared : ℕ → List Candidate → List Bool → Type 0
-AreShared len candidates bits = AllPairs (λ (one other : Candidate). one.fingerprint ≡ other.fingerprint → is_set bits (bit_of one.fingerprint len) ≡ true) candidates
+AreShared len candidates bits = AllPairs (λ (one other : Candidate). one.fingerprint ≡ other.fingerprint
+    → is_set bits (bit_of one.fingerprint len) ≡ true) candidates

@@ -32,7 +32,8 @@ impl Buckets {
     /// Adds the candidate to the list of its fingerprint.
     #[inline(always)]
     pub fn add(&mut self, candidate: Candidate) -> Result<(), NoMemory>
-        ensures { OnOk result ((candidates : List Candidate) → AreBuckets candidates self.old.lists.items → AreBuckets (candidates ++ candidate ∷ []) self.new.lists.items) }
+        ensures { OnOk result ((candidates : List Candidate) → AreBuckets candidates self.old.lists.items
+            → AreBuckets (candidates ++ candidate ∷ []) self.new.lists.items) }
     {
         push(
             &mut self.lists[(candidate.fingerprint >> 27) as usize],

@@ -40,7 +40,8 @@ pub fn find<E: Estimates>(
     least: i64,
     most: u32,
 ) -> Result<Found, NoMemory>
-    ensures { IfOk result (λ found. AreFound (E.estimate_of estimates.now) least most packets.now (map (λ p. p.key) packets.now) found.buckets.lists.items found.top.keys) }
+    ensures { IfOk result (λ found. AreFound (E.estimate_of estimates.now) least most packets.now
+        (map (λ p. p.key) packets.now) found.buckets.lists.items found.top.keys) }
 {
     let mut found = Found {
         buckets: Buckets::new(alloc)?,
@@ -67,7 +68,8 @@ impl Found {
         requires { length self.old.top.keys ≤ most }
         ensures cache { self.new.cache ≡ self.old.cache }
         ensures few { OnOk result (length self.new.top.keys ≤ most) }
-        ensures found { OnOk result (AreFoundUpTo (E.estimate_of estimates.now) least most packets.now 0 self.old.buckets.lists.items self.old.top.keys
+        ensures found { OnOk result (AreFoundUpTo
+            (E.estimate_of estimates.now) least most packets.now 0 self.old.buckets.lists.items self.old.top.keys
             → AreFoundUpTo (E.estimate_of estimates.now) least most packets.now 0 self.new.buckets.lists.items self.new.top.keys) }
     {
         for step in 0..packets.len() / SAMPLED {
@@ -99,7 +101,8 @@ impl Found {
         requires top { length self.old.top.keys ≤ most }
         ensures len { length self.new.cache.items ≡ 16384 }
         ensures few { OnOk result (length self.new.top.keys ≤ most) }
-        ensures found { OnOk result (AreFoundUpTo (E.estimate_of estimates.now) least most packets.now at self.old.buckets.lists.items self.old.top.keys
+        ensures found { OnOk result (AreFoundUpTo
+            (E.estimate_of estimates.now) least most packets.now at self.old.buckets.lists.items self.old.top.keys
             → AreFoundUpTo (E.estimate_of estimates.now) least most packets.now (at + 1) self.new.buckets.lists.items self.new.top.keys) }
     {
         let key = &packets[at].key;
@@ -126,8 +129,10 @@ impl Found {
         requires top { length self.old.top.keys ≤ most }
         ensures cache { self.new.cache ≡ self.old.cache }
         ensures few { OnOk result (length self.new.top.keys ≤ most) }
-        ensures found { OnOk result ((keys : List FlowKey) → AreFound (E.estimate_of estimates.now) least most packets.now keys self.old.buckets.lists.items self.old.top.keys
-            → AreFound (E.estimate_of estimates.now) least most packets.now (keys ++ key_at packets.now at ∷ []) self.new.buckets.lists.items self.new.top.keys) }
+        ensures found { OnOk result ((keys : List FlowKey)
+            → AreFound (E.estimate_of estimates.now) least most packets.now keys self.old.buckets.lists.items self.old.top.keys
+            → AreFound (E.estimate_of estimates.now) least most packets.now
+            (keys ++ key_at packets.now at ∷ []) self.new.buckets.lists.items self.new.top.keys) }
     {
         let key = &packets[at].key;
         let estimate = estimates.estimate_of(key);
@@ -142,7 +147,8 @@ impl Found {
 // Adds the packet with this place and this fingerprint of its key.
 #[inline(always)]
 fn add(buckets: &mut Buckets, at: usize, hash: u64) -> Result<(), NoMemory>
-    ensures { OnOk result ((candidates : List Candidate) → AreBuckets candidates buckets.old.lists.items → AreBuckets (candidates ++ record { fingerprint = hash / 4294967296; place = at } ∷ []) buckets.new.lists.items) }
+    ensures { OnOk result ((candidates : List Candidate) → AreBuckets candidates buckets.old.lists.items
+        → AreBuckets (candidates ++ record { fingerprint = hash / 4294967296; place = at } ∷ []) buckets.new.lists.items) }
 {
     let Ok(place) = u32::try_from(at) else {
         return Err(NoMemory);

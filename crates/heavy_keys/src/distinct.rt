@@ -28,7 +28,8 @@ pub fn distinct_in_buckets(
     buckets: &Buckets,
 ) -> Result<u64, NoMemory>
     requires { All (λ (list : Vec Candidate). All (IsCandidate packets.now) list.items) buckets.now.lists.items }
-    ensures { IfOk result (λ count. count ≡ sum_by (λ (list : Vec Candidate). distinct_count same_key (map (candidate_key packets.now) list.items)) buckets.now.lists.items) }
+    ensures { IfOk result (λ count. count ≡ sum_by
+        (λ (list : Vec Candidate). distinct_count same_key (map (candidate_key packets.now) list.items)) buckets.now.lists.items) }
 {
     let mut total = 0_u64;
     for list in &buckets.lists {
@@ -101,7 +102,8 @@ fn touch(touched: &mut Bits, shared: &mut Bits, fingerprint: u32)
     requires shared { 0 < length shared.old }
     ensures inside { bit_of fingerprint (length touched.old) < length touched.old }
     ensures touched { touched.new ≡ slice_set touched.old (bit_of fingerprint (length touched.old)) true }
-    ensures again { is_set touched.old (bit_of fingerprint (length touched.old)) ≡ true → is_set shared.new (bit_of fingerprint (length shared.old)) ≡ true }
+    ensures again { is_set touched.old (bit_of fingerprint (length touched.old)) ≡ true
+        → is_set shared.new (bit_of fingerprint (length shared.old)) ≡ true }
     ensures kept { (place : ℕ) → is_set shared.old place ≡ true → is_set shared.new place ≡ true }
     ensures length { length shared.new ≡ length shared.old }
 {

@@ -34,7 +34,8 @@ impl Model for Heavy {
 
     ghost view = { λ h. record { keys = keys_of_map h.keys; missed = h.missed; limit = h.limit; least = h.least } };
 
-    ghost invariant = { λ h. (length (keys_of_map h.keys) ≤ h.limit) × (h.limit ≤ length (keys_of_map h.keys) + spare h.keys) × (length h.slots.items ≡ 16384) };
+    ghost invariant = { λ h. (length (keys_of_map h.keys) ≤ h.limit) × (h.limit ≤ length (keys_of_map h.keys) + spare h.keys)
+        × (length h.slots.items ≡ 16384) };
 }
 
 impl Heavy {
@@ -60,7 +61,8 @@ impl Heavy {
     /// Notes a key with its estimate. It takes no memory.
     pub fn note(&mut self, key: FlowKey, estimate: i64)
         ensures noted { self.new ≡ noted self.old key estimate }
-        ensures live { (notes : List Flow) → HoldsLive self.old notes → HoldsLive self.new (notes ++ record { key = key; estimate = estimate } ∷ []) }
+        ensures live { (notes : List Flow) → HoldsLive self.old notes
+            → HoldsLive self.new (notes ++ record { key = key; estimate = estimate } ∷ []) }
     {
         if self.is_due(&key, estimate) {
             if self.keys.len() < self.limit as usize {

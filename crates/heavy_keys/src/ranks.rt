@@ -19,7 +19,8 @@ pub fn final_heavy<K: Kind>(
     table: &Table<K>,
     least: i64,
 ) -> Result<Flows, NoMemory>
-    ensures { IfOk result (λ flows. IsFinalHeavy (K.rules.estimate table.now.shape table.now.cells) least (map (λ p. p.key) packets.now) flows.items) }
+    ensures { IfOk result (λ flows. IsFinalHeavy (K.rules.estimate table.now.shape table.now.cells) least
+        (map (λ p. p.key) packets.now) flows.items) }
 {
     let HeaviestFlows { count, flows } = heaviest(alloc, packets, table, least, u32::MAX)?;
     if count > u64::from(u32::MAX) {

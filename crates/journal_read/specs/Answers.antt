@@ -10,7 +10,8 @@ use Rattle.journal_read.specs.Numbers.{begins_digit}
 -- where as many numbers of 64 bits stand in the text, each behind a space, they are these, and this is behind them
 abbrev pub ReadsNumbers : List ℕ → List ℕ → List ℕ → Type 0
 ReadsNumbers text numbers behind =
-    (ns rest : List ℕ) → length ns ≡ length numbers → All (λ n. n < 2 ^ 64) ns → begins_digit rest ≡ false → text ≡ flat_map spaced ns ++ rest
+    (ns rest : List ℕ) → length ns ≡ length numbers → All (λ n. n < 2 ^ 64) ns → begins_digit rest ≡ false
+    → text ≡ flat_map spaced ns ++ rest
     → (numbers ≡ ns) × (behind ≡ rest)
 
 -- the same of numbers with sign

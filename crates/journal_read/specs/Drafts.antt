@@ -57,9 +57,11 @@ MayFollow d (Worker worker pushes refused) =
     (d.stage ≡ Listing) × (d.due ≡ 0) × (worker ≡ length d.told.pushes) × (worker < d.told.options.workers)
     × (pushes ≤ 2 ^ 27) × (d.refused + refused ≤ 2 ^ 27)
 MayFollow d (Run worker first last) =
-    (d.stage ≡ Listing) × (worker + 1 ≡ length d.told.pushes) × (d.least ≤ first) × (first ≤ last) × (last < 2 ^ 27) × (last + 1 - first ≤ d.due)
+    (d.stage ≡ Listing) × (worker + 1 ≡ length d.told.pushes) × (d.least ≤ first) × (first ≤ last) × (last < 2 ^ 27)
+    × (last + 1 - first ≤ d.due)
 MayFollow d (Answered a) =
-    HasWorkers d × (length d.told.answers < d.told.options.readers * d.told.options.asks) × IsAnswerAt d.told.options (length d.told.answers) a
+    HasWorkers d × (length d.told.answers < d.told.options.readers * d.told.options.asks)
+    × IsAnswerAt d.told.options (length d.told.answers) a
 MayFollow d (Live k) =
     HasWorkers d × (length d.told.answers ≡ d.told.options.readers * d.told.options.asks) × IsKey k × (length d.told.live < 1024)
 MayFollow d (Missed n) = HasWorkers d × (length d.told.answers ≡ d.told.options.readers * d.told.options.asks) × (n < 2 ^ 64)

@@ -34,7 +34,8 @@ ReadsSmall text words number behind =
 -- the same of a number of 64 bits with sign
 abbrev pub ReadsSigned : List ℕ → List ℕ → ℤ → List ℕ → Type 0
 ReadsSigned text words number behind =
-    (x : ℤ) (rest : List ℕ) → mag x < 2 ^ 63 → begins_digit rest ≡ false → text ≡ words ++ (signed_decimal x ++ rest) → (number ≡ x) × (behind ≡ rest)
+    (x : ℤ) (rest : List ℕ) → mag x < 2 ^ 63 → begins_digit rest ≡ false → text ≡ words ++ (signed_decimal x ++ rest) → (number ≡ x)
+    × (behind ≡ rest)
 
 -- where one of these words stands behind others, it is this one, and this is behind it
 abbrev pub ReadsWord : {E : Type 0} → (E → List ℕ) → List ℕ → List ℕ → E → List ℕ → Type 0

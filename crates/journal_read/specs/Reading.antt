@@ -1,7 +1,7 @@
 -- What the text of a journal is, and what isn't one.
-use Rattle.std.specs.Prelude.{◌≡◌, ◌≢◌, ◌+◌, ℕ, List, [], ◌∷◌, ◌++◌, Option, length}
+use Rattle.std.specs.Prelude.{◌≡◌, ◌≢◌, ◌<◌, ◌+◌, ℕ, List, [], ◌∷◌, ◌++◌, Option, Some, length}
 use Rattle.std.specs.List.{flat_map}
-use Rattle.flow_base.specs.LinesRead.{IsLine}
+use Rattle.flow_base.specs.LinesRead.{HasNoFeed, IsLine}
 use Rattle.flow_base.specs.declared.lines.LineEnd.{LineEnd}
 use Rattle.push_history.specs.Journal.{Journal}
 use Rattle.journal_read.specs.Entries.{Entry, line_of}
@@ -14,7 +14,8 @@ Leads d (e ∷ es) after = MayFollow d e × Leads (read_on d e) es after
 
 -- nothing was read yet
 abbrev pub IsFresh : Draft → Type 0
-IsFresh d = (d.stage ≡ Nothing) × (d.told.refused ≡ []) × (d.told.pushes ≡ []) × (d.told.answers ≡ []) × (d.told.live ≡ []) × (d.refused ≡ 0) × (d.due ≡ 0) × (d.least ≡ 0)
+IsFresh d = (d.stage ≡ Nothing) × (d.told.refused ≡ []) × (d.told.pushes ≡ []) × (d.told.answers ≡ []) × (d.told.live ≡ [])
+    × (d.refused ≡ 0) × (d.due ≡ 0) × (d.least ≡ 0)
 
 -- the text is that of a journal with this content: the lines of entries that lead to its end
 pub record IsJournal (text : List ℕ) (content : Journal) : Type 0 where
@@ -43,3 +44,25 @@ pub record IsBadLine (bytes : List ℕ) (left : Option (List ℕ)) (line : ℕ) 
   pub end : LineEnd
   pub is_line : IsLine left stands end
   pub none : (e : Entry) → MayFollow after e → stands ≢ line_of e
+
+-- the bytes given begin with the text of a journal with this content, and this is behind it
+abbrev pub IsReadText : List ℕ → Journal → List ℕ → Type 0
+IsReadText given content behind = (text : List ℕ) × (given ≡ text ++ behind) × IsJournal text content
+
+-- a front of the bytes given, before what is left, ends with the line of this number, which isn't one of a journal
+abbrev pub HoldsBadLine : List ℕ → List ℕ → ℕ → Type 0
+HoldsBadLine given rest line = (bytes tail : List ℕ) × (given ≡ bytes ++ tail) × IsBadLine bytes (Some (tail ++ rest)) line
+
+-- the bytes break off before the end of a journal: they are lines of one, and behind them fewer than 1,024 bytes without a
+-- line feed
+pub record BreaksOff (bytes : List ℕ) : Type 0 where
+  pub before : Draft
+  pub fresh : IsFresh before
+  pub entries : List Entry
+  pub after : Draft
+  pub lead : Leads before entries after
+  pub going : after.stage ≢ Ended
+  pub stands : List ℕ
+  pub parts : bytes ≡ flat_map line_of entries ++ stands
+  pub unended : HasNoFeed stands
+  pub short : length stands < 1024

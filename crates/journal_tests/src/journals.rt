@@ -76,16 +76,20 @@ fn a_journal_is_read_up_to_its_end(rt: HostRuntime) -> Result<(), Fail> {
         assert_eq!(rt; left, 3);
         assert_eq!(rt; journal.options.round, 4);
         assert_eq!(rt; journal.options.watch.len(), 1);
-        assert_eq!(rt; journal.pushes.as_slice(), [2].as_slice());
+        assert_eq!(rt; journal.lists.pushes.as_slice(), [2].as_slice());
         assert_eq!(rt;
-            (journal.answers.len(), journal.live.len(), journal.missed),
+            (
+                journal.lists.answers.len(),
+                journal.lists.live.len(),
+                journal.lists.missed
+            ),
             (3, 1, 0)
         );
-        for bits in journal.refused.as_slice() {
+        for bits in journal.lists.refused.as_slice() {
             assert_eq!(rt; (bits.len(), bits.count()), (1 << 27, 4));
             assert_eq!(rt; places(bits), Some((1, 5)));
         }
-        for answer in journal.answers.as_slice().iter().skip(1) {
+        for answer in journal.lists.answers.as_slice().iter().skip(1) {
             assert_eq!(rt;
                 (
                     answer.front.as_slice(),
@@ -168,9 +172,12 @@ fn a_run_may_have_all_updates(rt: HostRuntime) -> Result<(), Fail> {
     let Ok(journal) = read else {
         return Err(Fail::from("no journal"));
     };
-    for bits in journal.refused.as_slice() {
+    for bits in journal.lists.refused.as_slice() {
         assert_eq!(rt; bits.count(), 1 << 27);
     }
-    assert_eq!(rt; (journal.live.len(), journal.missed), (0, u64::MAX));
+    assert_eq!(rt;
+        (journal.lists.live.len(), journal.lists.missed),
+        (0, u64::MAX)
+    );
     Ok(())
 }

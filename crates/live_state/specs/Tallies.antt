@@ -17,11 +17,21 @@ pub record Tallied : Type 0 where
 
 -- that of no message
 abbrev pub fresh_tally : ℕ → ℕ → ℤ → Tallied
-fresh_tally workers heavy least = record { front = replicate workers 0; upto = replicate workers 0; folded = 0; heavy = fresh_table heavy least }
+fresh_tally workers heavy least = record {
+  front = replicate workers 0;
+  upto = replicate workers 0;
+  folded = 0;
+  heavy = fresh_table heavy least;
+}
 
 -- with one message more of the worker
 abbrev pub counted : Tallied → ℕ → ℕ → Tallied
-counted t worker update = record { front = front_raised t.front worker; upto = slice_set t.upto worker (update + 1); folded = one_more t.folded; heavy = t.heavy }
+counted t worker update = record {
+  front = front_raised t.front worker;
+  upto = slice_set t.upto worker (update + 1);
+  folded = one_more t.folded;
+  heavy = t.heavy;
+}
 
 -- with a key noted
 abbrev pub key_noted_in : Tallied → FlowKey → ℤ → Tallied

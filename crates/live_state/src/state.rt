@@ -25,7 +25,13 @@ impl<K: Kind> Model for State<K> {
 
     ghost Value = { StateView };
 
-    ghost view = { λ s. record { table = s.table; front = s.tally.front; upto = s.tally.upto; folded = s.tally.folded; heavy = s.tally.heavy } };
+    ghost view = { λ s. record {
+      table = s.table;
+      front = s.tally.front;
+      upto = s.tally.upto;
+      folded = s.tally.folded;
+      heavy = s.tally.heavy;
+    } };
 }
 
 impl<K: Kind> State<K> {
@@ -55,7 +61,12 @@ impl<K: Kind> State<K> {
     ) -> Result<State<K>, NoMemory>
         requires zeros { table.cells ≡ zero_cells table.shape }
         requires heavy { (1 ≤ heavy) × (heavy ≤ 1024) }
-        ensures { IfOk result (λ state. state ≡ fresh_state (record { shape = table.shape; workers = workers; heavy = heavy; least = least })) }
+        ensures { IfOk result (λ state. state ≡ fresh_state (record {
+          shape = table.shape;
+          workers = workers;
+          heavy = heavy;
+          least = least;
+        })) }
     {
         let tally = Tally::new(alloc, workers, heavy, least)?;
         Ok(State { table, tally })
@@ -85,7 +96,12 @@ impl<K: Kind> State<K> {
 
     /// Makes a state with no message the one of these cells and this tally. It takes no memory.
     pub fn copy_parts(&mut self, cells: &[i64], tally: &Tally)
-        requires fresh { self.old ≡ fresh_state (record { shape = self.old.table.shape; workers = length tally.now.front; heavy = tally.now.heavy.limit; least = tally.now.heavy.least }) }
+        requires fresh { self.old ≡ fresh_state (record {
+          shape = self.old.table.shape;
+          workers = length tally.now.front;
+          heavy = tally.now.heavy.limit;
+          least = tally.now.heavy.least;
+        }) }
         requires size { length cells.now ≡ size_of self.old.table.shape }
         requires values { AreValues K.rules cells.now }
         ensures table { self.new.table ≡ record { shape = self.old.table.shape; cells = cells.now } }

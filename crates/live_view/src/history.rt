@@ -130,7 +130,9 @@ impl HistoryWriter {
         requires room { self.old.count < most }
         ensures book { self.new.stamp.book ≡ self.old.stamp.book }
         ensures count { (self.new.count ≡ length self.new.stamp.log) × (self.new.count < most) }
-        ensures ready { MatchBool result ((self.new.stuck ≡ Some message) × (((self.old.stuck ≡ Some message) × (self.new.stamp ≡ self.old.stamp)) ⊎ ((self.old.stuck ≡ None) × (self.new.stamp ≡ longer self.old.stamp message)))) (self.new ≡ self.old) }
+        ensures ready { MatchBool result ((self.new.stuck ≡ Some message)
+            × (((self.old.stuck ≡ Some message) × (self.new.stamp ≡ self.old.stamp))
+            ⊎ ((self.old.stuck ≡ None) × (self.new.stamp ≡ longer self.old.stamp message)))) (self.new ≡ self.old) }
     {
         if let Some(late) = self.stuck {
             return late == message;

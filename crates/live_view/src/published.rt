@@ -33,7 +33,16 @@ impl<K: Kind> Model for Published<K> {
 
     ghost Value = { PublishedView };
 
-    ghost view = { λ p. record { figures = record { table = record { shape = p.shape; cells = p.cells.items }; front = p.tally.front; upto = p.tally.upto; folded = p.tally.folded; heavy = p.tally.heavy }; history = p.stamp } };
+    ghost view = { λ p. record {
+      figures = record {
+        table = record { shape = p.shape; cells = p.cells.items };
+        front = p.tally.front;
+        upto = p.tally.upto;
+        folded = p.tally.folded;
+        heavy = p.tally.heavy;
+      };
+      history = p.stamp;
+    } };
 
     ghost invariant = { λ p. IsShape p.shape × (length p.cells.items ≡ size_of p.shape) × AreValues K.rules p.cells.items };
 }

@@ -44,9 +44,15 @@ where
 
     ghost Value = { ReaderView };
 
-    ghost view = { λ v. record { book = v.told.book; layout = v.layout; known = (unwrap_or (option_map (λ r. sides.view r.place) v.reader) no_notes).known; told = v.told.log } };
+    ghost view = { λ v. record {
+      book = v.told.book;
+      layout = v.layout;
+      known = (unwrap_or (option_map (λ r. sides.view r.place) v.reader) no_notes).known;
+      told = v.told.log;
+    } };
 
-    ghost invariant = { λ v. IsSome v.reader × IfSome v.reader (λ r. (sides.view r.place).pair ≡ Some (paired v.told.book v.layout)) × (v.start.book ≡ v.told.book) × (v.start.log ≡ []) };
+    ghost invariant = { λ v. IsSome v.reader × IfSome v.reader (λ r. (sides.view r.place).pair ≡ Some (paired v.told.book v.layout))
+        × (v.start.book ≡ v.told.book) × (v.start.log ≡ []) };
 }
 
 // Whether the told list begins that of the page, which is copied then.

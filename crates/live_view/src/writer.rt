@@ -46,9 +46,15 @@ where
 
     ghost Value = { WriterView };
 
-    ghost view = { λ w. record { book = w.writer.desk.shown.value.history.book; layout = layout_of w.writer.desk.shown.value.figures; published = (sides.view w.writer.desk.place).known; pending = messages (drop w.writer.behind w.writer.log.items) } };
+    ghost view = { λ w. record {
+      book = w.writer.desk.shown.value.history.book;
+      layout = layout_of w.writer.desk.shown.value.figures;
+      published = (sides.view w.writer.desk.place).known;
+      pending = messages (drop w.writer.behind w.writer.log.items);
+    } };
 
-    ghost invariant = { λ w. IsWriter K.rules w.writer.desk.shown.value (sides.view w.writer.desk.place) (drop w.writer.behind w.writer.log.items) w.history_writer × (w.layout ≡ layout_of w.writer.desk.shown.value.figures) };
+    ghost invariant = { λ w. IsWriter K.rules w.writer.desk.shown.value (sides.view w.writer.desk.place)
+        (drop w.writer.behind w.writer.log.items) w.history_writer × (w.layout ≡ layout_of w.writer.desk.shown.value.figures) };
 }
 
 fn reader_of<K: Kind, R: Wait>(
@@ -84,15 +90,19 @@ fn publish_in<K: Kind, R: Wait>(writer: &mut Writer<Published<K>, Entry, Notes, 
     requires fit { Fit K.rules (layout_of writer.old.desk.shown.value.figures) (messages (drop writer.old.behind writer.old.log.items)) }
     requires chain { IsChain writer.old.desk.shown.value.history (drop writer.old.behind writer.old.log.items) }
     ensures seat { view writer.new.desk.place ≡ notes writer.new.desk.shown.value.history.log (Some (pair_of writer.new.desk.shown.value)) }
-    ensures shown { writer.new.desk.shown.value ≡ fold (turned K.rules) writer.old.desk.shown.value (drop writer.old.behind writer.old.log.items) }
+    ensures shown { writer.new.desk.shown.value ≡ fold (turned K.rules) writer.old.desk.shown.value
+        (drop writer.old.behind writer.old.log.items) }
     ensures pending { drop writer.new.behind writer.new.log.items ≡ [] }
 {
     replace_with(
         writer,
         rt,
         |writer: Writer<Published<K>, Entry, Notes, Law>, rt: &R|
-            requires { Fit K.rules (layout_of writer.desk.shown.value.figures) (messages (drop writer.behind writer.log.items)) × IsChain writer.desk.shown.value.history (drop writer.behind writer.log.items) }
-            ensures { (view result.0.desk.place ≡ notes result.0.desk.shown.value.history.log (Some (pair_of result.0.desk.shown.value))) × (result.0.desk.shown.value ≡ fold (turned K.rules) writer.desk.shown.value (drop writer.behind writer.log.items)) × (drop result.0.behind result.0.log.items ≡ []) }
+            requires { Fit K.rules (layout_of writer.desk.shown.value.figures) (messages (drop writer.behind writer.log.items))
+                × IsChain writer.desk.shown.value.history (drop writer.behind writer.log.items) }
+            ensures { (view result.0.desk.place ≡ notes result.0.desk.shown.value.history.log (Some (pair_of result.0.desk.shown.value)))
+                × (result.0.desk.shown.value ≡ fold (turned K.rules) writer.desk.shown.value (drop writer.behind writer.log.items))
+                × (drop result.0.behind result.0.log.items ≡ []) }
         { (publish_now(writer, rt), ()) },
     )
 }
@@ -108,7 +118,8 @@ impl<K: Kind> ViewWriter<K> {
         requires layout { layout ≡ layout_of writer.desk.shown.value.figures }
         requires none { drop writer.behind writer.log.items ≡ [] }
         requires zero { IsStateAfter K.rules writer.desk.shown.value.figures [] }
-        requires history_writer { (history_writer.stamp ≡ writer.desk.shown.value.history) × (history_writer.stamp.log ≡ []) × (history_writer.count ≡ 0) × (history_writer.stuck ≡ None) }
+        requires history_writer { (history_writer.stamp ≡ writer.desk.shown.value.history) × (history_writer.stamp.log ≡ [])
+            × (history_writer.count ≡ 0) × (history_writer.stuck ≡ None) }
         ensures book { result.book ≡ history_writer.stamp.book }
         ensures layout { result.layout ≡ layout }
         ensures empty { (result.published ≡ []) × (result.pending ≡ []) }
@@ -124,7 +135,8 @@ impl<K: Kind> ViewWriter<K> {
     pub fn append(&mut self, message: Push) -> Result<(), NoMemory>
         requires { fits K.rules self.old.layout message ≡ true }
         ensures same { (self.new.book ≡ self.old.book) × (self.new.layout ≡ self.old.layout) × (self.new.published ≡ self.old.published) }
-        ensures pending { MatchResult result (λ _. self.new.pending ≡ self.old.pending ++ message ∷ []) (λ _. self.new.pending ≡ self.old.pending) }
+        ensures pending { MatchResult result (λ _. self.new.pending ≡ self.old.pending ++ message ∷ [])
+            (λ _. self.new.pending ≡ self.old.pending) }
     {
         if !self.history_writer.ready(message) {
             return Err(NoMemory);

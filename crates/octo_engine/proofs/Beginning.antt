@@ -1,12 +1,9 @@
 -- The workers' parts before the first round.
-use Rattle.std.proofs.Common.{◌≡◌, ◌<◌, ◌≤◌, ◌^◌, ℕ, zero, suc, ◌+◌, ◌*◌, ◌%◌, ◌==◌, ◌&&◌, List, [], ◌∷◌, ◌++◌, length, take, get_or, Bool, true, nat_lt, if◌then◌else◌, All, refl, sym, ap, ap₂, ◌∙◌, subst, arith, inl, inr}
-use Rattle.std.specs.Prelude.{filter, map, slice_index_or}
-use Rattle.std.specs.List.{range_with_len}
+use Rattle.std.proofs.Common.{◌≡◌, ◌<◌, ◌≤◌, ◌^◌, ℕ, ◌+◌, ◌*◌, ℤ, ◌&&◌, List, [], ◌∷◌, ◌++◌, length, take, get_or, Bool, true, nat_lt, All, refl, sym, ap, ap₂, ◌∙◌, subst, arith, inl, inr}
 use Rattle.std.proofs.Math.Seq.{get_or-append_seam, take-append_seam}
 use Rattle.std.proofs.lemmas.Bool.{cases_lt}
 use Rattle.std.proofs.lemmas.List.{get_or_append_left}
-use Rattle.std.proofs.lemmas.List.Elements.{All-filter}
-use Rattle.std.proofs.lemmas.List.Sums.{length-filter, count_by-le-length, sum_by-le}
+use Rattle.std.proofs.lemmas.List.Sums.{sum_by-le}
 use Rattle.std.proofs.lemmas.Option.{slice_get_within}
 use Rattle.std.proofs.Math.Nat.{mul-le-mul_right}
 use Rattle.listed.specs.Listed.{Listed}
@@ -14,17 +11,14 @@ use Rattle.hash_rows.specs.Amounts.{total_amount}
 use Rattle.hash_rows.specs.declared.shape.Push.{Push}
 use Rattle.push_history.specs.LagRun.{Terms}
 use Rattle.hash_rows.specs.declared.answer.Answer.{Answer}
-use Rattle.std.proofs.lemmas.List.FromFn.{get_or-map-range_with_len, get_or-range_with_len, length-range_with_len, length-map-range_with_len}
 use Rattle.hash_rows.specs.declared.options.Options.{Options}
-use Rattle.hash_rows.specs.declared.options.Share.{Share}
-use Rattle.hash_rows.specs.declared.options.Share.TheVariants.{Turn, Key}
 use Rattle.hash_rows.specs.declared.options.Sketch.{Sketch}
 use Rattle.hash_rows.specs.declared.shape.Packet.{Packet}
 use Rattle.hash_rows.specs.Lawful.{IsLawful}
 use Rattle.hash_rows.specs.Rules.{Rules, rules_of}
 use Rattle.hash_rows.specs.Shapes.{size_of}
 use Rattle.push_history.specs.Journal.{rules_in, terms_of, updates_by_options}
-use Rattle.push_history.specs.Share.{share_of_worker, worker_of}
+use Rattle.push_history.specs.Share.{share_of_worker}
 use Rattle.push_history.specs.Updates.{updates_of}
 use Rattle.live_state.specs.Fold.{Fit, StateView, fresh_state, state_after}
 use Rattle.round_law.specs.OwnRounds.{folded_after}
@@ -33,7 +27,8 @@ use Rattle.round_law.proofs.OwnRounds.{folded_none}
 use Rattle.push_history.proofs.Fitting.{terms_len, updates_there}
 use Rattle.octo_engine.specs.Counts.{HasShare}
 use Rattle.octo_engine.specs.Looks.{AreLooks, layout_in, looks_wanted}
-use Rattle.octo_engine.specs.Rounds.{AreTerms, Suit}
+use Rattle.octo_engine.specs.declared.worker.Part.{Part}
+use Rattle.octo_engine.specs.Rounds.{AreParts, AreTerms, IsAfter, Suit}
 
 fit_by : (a b c : Bool) → a ≡ true → b ≡ true → c ≡ true → (a && (b && c)) ≡ true
 fit_by a b c x y z = ap₂ (λ u v. u && v) x (ap₂ (λ u v. u && v) y z)
@@ -95,3 +90,19 @@ looks_none r t o looks none room = record {
 -- what is written back of a slice of a whole vector
 pub back : {A : Type 0} (xs ys : List A) (n : ℕ) → length xs ≡ n → xs ≡ take n (xs ++ ys)
 back xs ys n len = sym (ap (λ k. take k (xs ++ ys)) (sym len) ∙ take-append_seam xs ys)
+
+module _ {K H : Type 0} (r : Rules) (stands : H → ℤ → ℤ → Type 0) (t : Terms) (o : Options) (packets : List Packet) where
+  -- the parts, the state and the looks before the first round
+  pub after_none : (made parts : List (Part K H)) (state : StateView) (looks : Listed Answer) → AreParts stands t o packets 0 made → parts ≡ made → state ≡ fresh_state (layout_in o) → looks.items ≡ []
+      → looks.room ≡ looks_wanted o → IsAfter stands r t o packets parts state looks
+  after_none made parts state looks are same is none room = record {
+    rounds = 0;
+    workers = subst (λ (ps : List (Part K H)). AreParts stands t o packets 0 ps) (sym same) are;
+    state_is = state_none r t o state is;
+    seen = looks_none r t o looks none room;
+  }
+
+  -- the parts stand in their vector again once the rounds are over
+  pub after_back : (parts rest : List (Part K H)) (n : ℕ) (state : StateView) (looks : Listed Answer) → length parts ≡ n → IsAfter stands r t o packets parts state looks
+      → IsAfter stands r t o packets (take n (parts ++ rest)) state looks
+  after_back parts rest n state looks len after = subst (λ (ps : List (Part K H)). IsAfter stands r t o packets ps state looks) (back parts rest n len) after

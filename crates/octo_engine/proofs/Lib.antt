@@ -1,6 +1,7 @@
 pub mod Answering
 pub mod Beginning
 pub mod Looking
+pub mod OneSchedule
 pub mod Outcomes
 pub mod Places
 pub mod Rounding

@@ -1,9 +1,9 @@
 -- Which packet and which row an update number is of.
-use Rattle.std.proofs.Common.{◌≡◌, ◌<◌, ◌≤◌, ℕ, zero, suc, ◌+◌, ◌-◌, ◌*◌, List, [], ◌∷◌, ◌++◌, length, get_or, inl, inr, sym, ap, ◌∙◌, subst, arith}
+use Rattle.std.proofs.Common.{◌≡◌, ◌<◌, ◌≤◌, ℕ, zero, suc, ◌+◌, ◌-◌, ◌*◌, List, [], ◌∷◌, ◌++◌, length, get_or, set, inl, inr, sym, ap, ◌∙◌, subst, arith}
 use Rattle.std.specs.List.{flat_map}
 use Rattle.std.proofs.Math.Nat.{mul-suc, mul-le-mul_left, mul-le-mul_right}
 use Rattle.std.proofs.lemmas.Bool.{cases_lt}
-use Rattle.std.proofs.lemmas.List.{get_or_append_left, get_or-append-add}
+use Rattle.std.proofs.lemmas.List.{get_or_append_left, get_or-append-add, get_or_default, get_or-set_other, get_or-set_same}
 use Rattle.std.proofs.lemmas.List.FromFn.{length-map-range_with_len, get_or-map-range_with_len}
 use Rattle.hash_rows.specs.declared.shape.Packet.{Packet}
 use Rattle.hash_rows.specs.declared.shape.Shape.{Shape}
@@ -72,3 +72,20 @@ next_at r t shape packets w share has y place first last position at counted lt 
 
 pub has_len : (r : Rules) (t : Terms) (shape : Shape) (packets : List Packet) (w : ℕ) (share : List ℕ) → HasShare r t shape packets w share → length (updates_by t w) ≡ shape.rows * length share
 has_len r t shape packets w share has = ap length has.updates ∙ updates_len r shape packets share
+
+-- one place more is written: what holds of what stood at each place and what stands there now
+pub written : {A : Type 0} (P : A → A → Type 0) (old now : List A) (i : ℕ) (d new : A) → i < length now → P (get_or now i d) new → ((w : ℕ) (p : A) → w < i → P (get_or old w p) (get_or now w p))
+    → ((w : ℕ) (p : A) → i ≤ w → get_or now w p ≡ get_or old w p)
+    → ((w : ℕ) (p : A) → w < i + 1 → P (get_or old w p) (get_or (set now i new) w p)) × ((w : ℕ) (p : A) → i + 1 ≤ w → get_or (set now i new) w p ≡ get_or old w p)
+written {A} P old now i d new lt ran below above = (
+  (λ w p less.
+      elim (cases_lt w i) [
+        | inl early ↦ subst (λ (z : A). P (get_or old w p) z) (sym (get_or-set_other now i w new p (λ same. absurd (omega (arith, early, same))))) (below w p early)
+        | inr late ↦
+            let same : i ≡ w = omega (arith, late, less) in
+            let was : get_or now i d ≡ get_or old i p = get_or_default now i d p lt ∙ above i p (omega arith) in
+            let wrote : get_or (set now i new) i p ≡ new = get_or-set_same now i new p lt in
+            subst (λ (k : ℕ). P (get_or old k p) (get_or (set now i new) k p)) same (subst (λ (z : A). P z (get_or (set now i new) i p)) was (subst (λ (z : A). P (get_or now i d) z) (sym wrote) ran))
+      ]),
+  (λ w p more. get_or-set_other now i w new p (λ same. absurd (omega (arith, more, same))) ∙ above w p (omega (arith, more))),
+)

@@ -4,6 +4,8 @@ use Rattle.std.specs.Prelude.{fold, slice_index_or, sum_by}
 use Rattle.std.specs.List.{flat_map, list_any, range_with_len}
 use Rattle.std.proofs.lemmas.List.Sums.{fold-append}
 use Rattle.std.proofs.lemmas.Option.{get_or_from_slice_get, slice_get_within}
+use Rattle.listed.specs.Listed.{Listed}
+use Rattle.hash_rows.specs.declared.answer.Answer.{Answer}
 use Rattle.hash_rows.specs.declared.options.Options.{Options}
 use Rattle.hash_rows.specs.declared.shape.Packet.{Packet}
 use Rattle.hash_rows.specs.declared.shape.Push.{Push}
@@ -21,9 +23,9 @@ use Rattle.round_law.proofs.OwnRounds.{folded_more, rounds_more}
 use Rattle.round_law.proofs.Measure.{IsWithin, less_left, no_more_left, round_within}
 use Rattle.octo_engine.specs.declared.worker.Part.{Part}
 use Rattle.octo_engine.specs.Counts.{HasShare}
-use Rattle.octo_engine.specs.Looks.{Runs, layout_in}
+use Rattle.octo_engine.specs.Looks.{AreLooks, Runs, layout_in}
 use Rattle.octo_engine.specs.Parts.{IsPart, RanBlock, block, is_busy_part, messages_in, part_work}
-use Rattle.octo_engine.specs.Rounds.{AreParts, AreTerms}
+use Rattle.octo_engine.specs.Rounds.{AreParts, AreTerms, IsAfter}
 use Rattle.octo_engine.proofs.Places.{has_len}
 use Rattle.octo_engine.proofs.Running.{held_is}
 use Rattle.octo_engine.proofs.Stepping.{counted_by}
@@ -65,6 +67,9 @@ module _ (t : Terms) (o : Options) (w : ℕ) (some : 1 ≤ t.capacity) where
       let far = rest.1 in
       let all : work_left t w (own_rounds t o w (block - 1) (own_round t o w x)) ≡ work_left t w (own_rounds t o w block x) = ap (work_left t w) (rounds_more t o w 1 (block - 1) x) in
       omega (arith, first, far, all)
+
+some_round : (o : Options) → IsLawful o → 1 ≤ o.shape.rows * o.round
+some_round o lawful = one-le-mul lawful.shape.some_rows lawful.some_round
 
 lt_by : (a b : ℕ) → nat_lt a b ≡ nat_lt 0 (b - a)
 lt_by a b = grind arith
@@ -154,5 +159,19 @@ module _ {K H : Type 0} (r : Rules) (stands : H → ℤ → ℤ → Type 0) (t :
       omega (arith, one, two, less, join) in
       sums_less part_work is_busy_part parts new (many ∙ sym len) each strict busy
 
-pub some_round : (o : Options) → IsLawful o → 1 ≤ o.shape.rows * o.round
-some_round o lawful = one-le-mul lawful.shape.some_rows lawful.some_round
+  -- a block leaves less to do
+  pub busy_less : (n : ℕ) (parts new : List (Part K H)) → IsLawful o → AreParts stands t o packets n parts → length new ≡ length parts
+      → ((w : ℕ) (p : Part K H) → w < length parts → RanBlock r stands o packets (slice_index_or parts w p) (slice_index_or new w p)) → list_any is_busy_part parts ≡ true
+      → sum_by part_work new < sum_by part_work parts
+  busy_less n parts new lawful are len ran busy = work_less n parts new lawful.some_batch (some_round o lawful) are (parts_more n parts new are len ran) busy
+
+  -- once what a block gives is folded, the run is a block further
+  pub after_block : (parts new : List (Part K H)) (state told : StateView) (looks more : Listed Answer) → (was : IsAfter stands r t o packets parts state looks) → length new ≡ length parts
+      → ((w : ℕ) (p : Part K H) → w < length parts → RanBlock r stands o packets (slice_index_or parts w p) (slice_index_or new w p))
+      → (told ≡ state_after r (layout_in o) (folded_after t o (was.rounds + block))) × AreLooks r t o (was.rounds + block) more → IsAfter stands r t o packets new told more
+  after_block parts new state told looks more was len ran folded = record {
+    rounds = was.rounds + block;
+    workers = parts_more was.rounds parts new was.workers len ran;
+    state_is = folded.0;
+    seen = folded.1;
+  }

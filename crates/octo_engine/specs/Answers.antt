@@ -15,9 +15,11 @@ pub record IsAnswerOf (reader number : ℕ) (look a : Answer) : Type 0 where
 pub record IsLike (reader n : ℕ) (looks old new : List Answer) : Type 0 where
   pub len : length new ≡ length old + n
   pub before : (k : ℕ) (a : Answer) → k < length old → slice_get new k ≡ Some a → slice_get old k ≡ Some a
-  pub each : (k : ℕ) (a look : Answer) → k < n → slice_get new (length old + k) ≡ Some a → slice_get looks k ≡ Some look → IsAnswerOf reader k look a
+  pub each : (k : ℕ) (a look : Answer) → k < n → slice_get new (length old + k) ≡ Some a → slice_get looks k ≡ Some look
+      → IsAnswerOf reader k look a
 
 -- each reader has an answer for each look
 pub record AreAnswers (readers asks : ℕ) (looks answers : List Answer) : Type 0 where
   pub len : length answers ≡ readers * asks
-  pub each : (q k : ℕ) (a look : Answer) → q < readers → k < asks → slice_get answers (q * asks + k) ≡ Some a → slice_get looks k ≡ Some look → IsAnswerOf q k look a
+  pub each : (q k : ℕ) (a look : Answer) → q < readers → k < asks → slice_get answers (q * asks + k) ≡ Some a
+      → slice_get looks k ≡ Some look → IsAnswerOf q k look a

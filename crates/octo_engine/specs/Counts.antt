@@ -19,7 +19,8 @@ pub record HasShare (r : Rules) (t : Terms) (shape : Shape) (packets : List Pack
 -- the worker's next updates are what the packet adds in these rows
 pub record AreNext (t : Terms) (w : ℕ) (x : Worker) (shape : Shape) (packet : Packet) (position first last : ℕ) : Type 0 where
   pub within : x.counted + (last - first) ≤ length (updates_by t w)
-  pub rows : (k : ℕ) → k < last - first → update_at (updates_by t w) (x.counted + k) ≡ update_in_row t.rules shape position packet (first + k)
+  pub rows : (k : ℕ) → k < last - first
+      → update_at (updates_by t w) (x.counted + k) ≡ update_in_row t.rules shape position packet (first + k)
 
 module _ {Held : Type 0} where
   -- the worker counted so many updates, or fewer where one of them waits
@@ -32,7 +33,8 @@ module _ {Held : Type 0} where
     pub all : waits ≡ false → new.sketch.counted ≡ old.sketch.counted + n
 
   -- worker x has counted n updates and is here; where one waits, it ends for however many more
-  pub record HasCounted (stands : Held → ℤ → ℤ → Type 0) (t : Terms) (w : ℕ) (x : Worker) (n : ℕ) (waits : Bool) (d : CounterView Held) : Type 0 where
+  pub record HasCounted (stands : Held → ℤ → ℤ → Type 0) (t : Terms) (w : ℕ) (x : Worker) (n : ℕ) (waits : Bool)
+      (d : CounterView Held) : Type 0 where
     pub now : Worker
     pub keeps : Keeps stands t w d now
     pub counted : waits ≡ false → now.counted ≡ x.counted + n

@@ -34,7 +34,8 @@ pub record AreEnds (ends : List ℕ) (n taken : ℕ) : Type 0 where
 
 module _ {Held : Type 0} where
   -- worker x has gone through n rounds of the block, and between two ends stand the messages of the round
-  pub record HasRun (stands : Held → ℤ → ℤ → Type 0) (t : Terms) (o : Options) (w : ℕ) (x : Worker) (n : ℕ) (ends : List ℕ) (d : CounterView Held) : Type 0 where
+  pub record HasRun (stands : Held → ℤ → ℤ → Type 0) (t : Terms) (o : Options) (w : ℕ) (x : Worker) (n : ℕ) (ends : List ℕ)
+      (d : CounterView Held) : Type 0 where
     pub keeps : Keeps stands t w d (own_rounds t o w n x)
     pub folded : (k : ℕ) → k < n → cut_at ends k d.queue ≡ folded_in_round t o w (own_rounds t o w k x)
 
@@ -57,7 +58,8 @@ module _ {K Held : Type 0} where
   part_work p = 2 * (p.counter.sketch.room - p.counter.sketch.counted) + in_lane p.counter
 
   -- the part is worker w after n rounds
-  pub record IsPart (stands : Held → ℤ → ℤ → Type 0) (t : Terms) (o : Options) (packets : List Packet) (n w : ℕ) (p : Part K Held) : Type 0 where
+  pub record IsPart (stands : Held → ℤ → ℤ → Type 0) (t : Terms) (o : Options) (packets : List Packet) (n w : ℕ)
+      (p : Part K Held) : Type 0 where
     pub share : p.share ≡ share_of_worker o.share o.workers packets w
     pub sound : IsSound o (length packets) p
     pub keeps : Keeps stands t w p.counter (own_rounds t o w n fresh_worker)
@@ -67,4 +69,5 @@ module _ {K Held : Type 0} where
     pub share : q.share ≡ p.share
     pub sound : IsSound o (length packets) q
     pub ends : AreEnds q.ends.items block q.counter.taken
-    pub run : (t : Terms) (w : ℕ) (x : Worker) → HasShare r t o.shape packets w p.share → Keeps stands t w p.counter x → HasRun stands t o w x block q.ends.items q.counter
+    pub run : (t : Terms) (w : ℕ) (x : Worker) → HasShare r t o.shape packets w p.share → Keeps stands t w p.counter x
+        → HasRun stands t o w x block q.ends.items q.counter

@@ -18,7 +18,8 @@ residues_of t xs n cell = map (λ w. residue t.rules (updates_by t w) (xs w).sen
 
 -- the residues of the first n workers are joined into each cell
 abbrev pub HasJoined : Terms → (ℕ → Worker) → ℕ → ℕ → List ℤ → List ℤ → Type 0
-HasJoined t xs n size old new = (cell : ℕ) → cell < size → value_at new cell ≡ fold t.rules.join (value_at old cell) (residues_of t xs n cell)
+HasJoined t xs n size old new = (cell : ℕ) → cell < size
+    → value_at new cell ≡ fold t.rules.join (value_at old cell) (residues_of t xs n cell)
 
 module _ {Held : Type 0} where
   -- the counter is that of a worker of some run, for a table of this shape
@@ -33,7 +34,8 @@ module _ {K Held : Type 0} where
   -- the bits tell of each update of the worker whether it was refused
   pub record IsRow (r : Rules) (stands : Held → ℤ → ℤ → Type 0) (p : Part K Held) (bits : List Bool) : Type 0 where
     pub len : length bits ≡ p.counter.sketch.room
-    pub marks : (t : Terms) (w : ℕ) (x : Worker) → t.rules ≡ r → Keeps stands t w p.counter x → (k : ℕ) → slice_index_or bits k false ≡ is_refused k x.refused
+    pub marks : (t : Terms) (w : ℕ) (x : Worker) → t.rules ≡ r → Keeps stands t w p.counter x → (k : ℕ)
+        → slice_index_or bits k false ≡ is_refused k x.refused
 
   -- there is a row for each worker
   pub record HasRefused (r : Rules) (stands : Held → ℤ → ℤ → Type 0) (parts : List (Part K Held)) (rows : List (List Bool)) : Type 0 where

@@ -30,19 +30,22 @@ pub record Suit (r : Rules) (t : Terms) (o : Options) : Type 0 where
 
 module _ {K Held : Type 0} where
   -- the parts are the workers after n rounds
-  pub record AreParts (stands : Held → ℤ → ℤ → Type 0) (t : Terms) (o : Options) (packets : List Packet) (n : ℕ) (parts : List (Part K Held)) : Type 0 where
+  pub record AreParts (stands : Held → ℤ → ℤ → Type 0) (t : Terms) (o : Options) (packets : List Packet) (n : ℕ)
+      (parts : List (Part K Held)) : Type 0 where
     pub len : length parts ≡ o.workers
     pub each : (w : ℕ) (p : Part K Held) → w < o.workers → IsPart stands t o packets n w (slice_index_or parts w p)
 
   -- the parts, the state and the looks are those after so many rounds
-  pub record IsAfter (stands : Held → ℤ → ℤ → Type 0) (r : Rules) (t : Terms) (o : Options) (packets : List Packet) (parts : List (Part K Held)) (state : StateView) (looks : Listed Answer) : Type 0 where
+  pub record IsAfter (stands : Held → ℤ → ℤ → Type 0) (r : Rules) (t : Terms) (o : Options) (packets : List Packet)
+      (parts : List (Part K Held)) (state : StateView) (looks : Listed Answer) : Type 0 where
     pub rounds : ℕ
     pub workers : AreParts stands t o packets rounds parts
     pub state_is : state ≡ state_after r (layout_in o) (folded_after t o rounds)
     pub seen : AreLooks r t o rounds looks
 
   -- no worker is busy after n rounds
-  pub record IsEnd (stands : Held → ℤ → ℤ → Type 0) (r : Rules) (t : Terms) (o : Options) (packets : List Packet) (n : ℕ) (parts : List (Part K Held)) (state : StateView) : Type 0 where
+  pub record IsEnd (stands : Held → ℤ → ℤ → Type 0) (r : Rules) (t : Terms) (o : Options) (packets : List Packet) (n : ℕ)
+      (parts : List (Part K Held)) (state : StateView) : Type 0 where
     pub workers : AreParts stands t o packets n parts
     pub state_is : state ≡ state_after r (layout_in o) (folded_after t o n)
     pub none : list_any is_busy_part parts ≡ false

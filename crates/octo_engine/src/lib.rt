@@ -1,4 +1,4 @@
-//! Workers that count side by side: runs in rounds.
+//! Runs in rounds, by workers that count side by side or one after another.
 #![tactic(auto)]
 
 mod looks;
@@ -9,4 +9,4 @@ mod setup;
 mod worker;
 
 pub use looks::asked_keys;
-pub use run::{Settled, run_rounds};
+pub use run::{Settled, run_rounds, run_rounds_alone};

@@ -54,7 +54,8 @@ pub fn look_once<K: Kind>(
     looks: &mut Answers,
 ) -> Result<(), NoMemory>
     requires { keys.now.items ≡ keys_of options.now }
-    ensures { OnOk result ((t : Terms) (n : ℕ) → Runs K.rules t options.now → state.now ≡ state_after K.rules (layout_in options.now) (folded_after t options.now (n + 1))
+    ensures { OnOk result ((t : Terms) (n : ℕ) → Runs K.rules t options.now
+        → state.now ≡ state_after K.rules (layout_in options.now) (folded_after t options.now (n + 1))
         → AreLooks K.rules t options.now n looks.old → AreLooks K.rules t options.now (n + 1) looks.new) }
 {
     let _options = options;
@@ -73,7 +74,8 @@ pub fn look_at_end<K: Kind>(
     looks: &mut Answers,
 ) -> Result<(), NoMemory>
     requires { keys.now.items ≡ keys_of options.now }
-    ensures { OnOk result ((t : Terms) (n : ℕ) → Runs K.rules t options.now → state.now ≡ state_after K.rules (layout_in options.now) (folded_after t options.now n)
+    ensures { OnOk result ((t : Terms) (n : ℕ) → Runs K.rules t options.now
+        → state.now ≡ state_after K.rules (layout_in options.now) (folded_after t options.now n)
         → AreLooks K.rules t options.now n looks.old → AreAllLooks K.rules t options.now n looks.new.items) }
 {
     let _options = options;

@@ -40,10 +40,36 @@ pub fn run_while_busy<K: Kind, R: Threads + Sync>(
     requires terms { AreTerms K.rules (terms_of packets.now options.now) options.now packets.now }
     requires after { IsAfter K.stands K.rules (terms_of packets.now options.now) options.now packets.now parts.old state.old looks.old }
     ensures idle { OnOk result (list_any is_busy_part parts.new ≡ false) }
-    ensures after { OnOk result (IsAfter K.stands K.rules (terms_of packets.now options.now) options.now packets.now parts.new state.new looks.new) }
+    ensures after { OnOk result (IsAfter K.stands K.rules
+        (terms_of packets.now options.now) options.now packets.now parts.new state.new looks.new) }
 {
     'busy: while any_busy(parts) {
         run_workers(rt, parts, packets, options);
+        fold_block(alloc, options, keys, parts, state, looks)?;
+    }
+    Ok(())
+}
+
+/// Runs rounds in the same way, one worker after another: it starts no thread.
+pub fn run_while_busy_alone<K: Kind>(
+    alloc: Global,
+    packets: &[Packet],
+    options: &Options,
+    keys: &Keys,
+    parts: &mut [Part<K>],
+    state: &mut State<K>,
+    looks: &mut Answers,
+) -> Result<(), NoMemory>
+    requires lawful { IsLawful options.now }
+    requires keys { keys.now.items ≡ keys_of options.now }
+    requires terms { AreTerms K.rules (terms_of packets.now options.now) options.now packets.now }
+    requires after { IsAfter K.stands K.rules (terms_of packets.now options.now) options.now packets.now parts.old state.old looks.old }
+    ensures idle { OnOk result (list_any is_busy_part parts.new ≡ false) }
+    ensures after { OnOk result (IsAfter K.stands K.rules
+        (terms_of packets.now options.now) options.now packets.now parts.new state.new looks.new) }
+{
+    'busy: while any_busy(parts) {
+        run_workers_alone(parts, packets, options);
         fold_block(alloc, options, keys, parts, state, looks)?;
     }
     Ok(())
@@ -62,9 +88,14 @@ fn fold_block<K: Kind>(
     requires ends { (w : ℕ) (p : _) → slice_get parts.now w ≡ Some p → AreEnds p.ends.items block p.counter.taken }
     requires taken { (w : ℕ) (p : _) → slice_get parts.now w ≡ Some p → p.counter.taken ≤ length p.counter.queue }
     ensures folded { OnOk result ((t : Terms) (n : ℕ) → Runs K.rules t options.now
-        → ((k : ℕ) → k < block → flat_map (messages_in k) parts.now ≡ flat_map (λ w. folded_in_round t options.now w (own_rounds t options.now w (n + k) fresh_worker)) (range_with_len 0 options.now.workers))
-        → state.old ≡ state_after K.rules (layout_in options.now) (folded_after t options.now n) → AreLooks K.rules t options.now n looks.old
-        → (state.new ≡ state_after K.rules (layout_in options.now) (folded_after t options.now (n + block))) × AreLooks K.rules t options.now (n + block) looks.new) }
+        → ((k : ℕ) → k < block
+        → flat_map (messages_in k) parts.now ≡ flat_map
+        (λ w. folded_in_round t options.now w (own_rounds t options.now w (n + k) fresh_worker))
+        (range_with_len 0 options.now.workers))
+        → state.old ≡ state_after K.rules (layout_in options.now) (folded_after t options.now n)
+        → AreLooks K.rules t options.now n looks.old
+        → (state.new ≡ state_after K.rules (layout_in options.now) (folded_after t options.now (n + block)))
+        × AreLooks K.rules t options.now (n + block) looks.new) }
 {
     'rounds: for round in 0..BLOCK {
         fold_round(state, parts, round);
@@ -111,6 +142,19 @@ fn run_workers<K: Kind, R: Threads + Sync>(
             ensures { RanBlock K.rules K.stands options.entry.now packets.entry.now part.entry.now part.exit.now }
         { run_block(part, packets, options) },
     );
+}
+
+// The same, one worker after another.
+fn run_workers_alone<K: Kind>(parts: &mut [Part<K>], packets: &[Packet], options: &Options)
+    requires lawful { IsLawful options.now }
+    requires sound { (w : ℕ) (p : _) → w < length parts.old → IsSound options.now (length packets.now) (slice_index_or parts.old w p) }
+    ensures len { length parts.new ≡ length parts.old }
+    ensures ran { (w : ℕ) (p : _) → w < length parts.old
+        → RanBlock K.rules K.stands options.now packets.now (slice_index_or parts.old w p) (slice_index_or parts.new w p) }
+{
+    for part in parts.iter_mut() {
+        run_block(part, packets, options);
+    }
 }
 
 // Folds what each worker gave away in a round of the block, by worker.

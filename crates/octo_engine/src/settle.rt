@@ -22,6 +22,7 @@ use hash_rows::{Answers, BitRows, Bits, Keys, Kind, Options, Packet, Table};
 use heavy_keys::Heavy;
 use listed::Listed;
 use live_state::State;
+use push_history::RunLists;
 use push_rule::Counter;
 use std::alloc::Global;
 
@@ -38,8 +39,9 @@ pub fn settle<K: Kind>(
     requires sketch { options.now.sketch ≡ K.sketch }
     requires few { length packets.now ≤ 16777216 }
     requires amounts { All (λ p. p.amount < 2 ^ 32) packets.now }
-    requires end { (n : ℕ) × IsEnd K.stands K.rules (terms_of packets.now options.now) options.now packets.now n parts.items state × AreAllLooks K.rules (terms_of packets.now options.now) options.now n looks.now.items }
-    ensures outcome { IfOk result (λ s. HasOutcome (terms_of packets.now options.now) options.now s.refused.items s.pushes.items s.answers.items s.live.items s.missed) }
+    requires end { (n : ℕ) × IsEnd K.stands K.rules (terms_of packets.now options.now) options.now packets.now n parts.items state
+        × AreAllLooks K.rules (terms_of packets.now options.now) options.now n looks.now.items }
+    ensures outcome { IfOk result (λ s. HasOutcome (terms_of packets.now options.now) options.now s.lists) }
     ensures table { IfOk result (λ s. s.table ≡ sequential_table K.rules options.now.shape packets.now) }
 {
     let answers = answers_from(alloc, looks, options)?;
@@ -48,14 +50,14 @@ pub fn settle<K: Kind>(
     let missed = state.heavy().missed();
     let table = table_of(state, parts.as_slice(), packets, options);
     let refused = refused_rows(alloc, parts, options.workers)?;
-    Ok(Settled {
-        table,
+    let lists = RunLists {
         refused,
         pushes,
         answers,
         live,
         missed,
-    })
+    };
+    Ok(Settled { table, lists })
 }
 
 // The table of what was folded, with each worker's residues joined in.
@@ -81,11 +83,13 @@ fn table_of<K: Kind>(
 
 // Joins into each cell what each worker counted of it and did not tell.
 fn join_residues<K: Kind>(table: &mut Table<K>, parts: &[Part<K>])
-    requires kept { (w : ℕ) (p : _) → w < length parts.now → IsKept K.rules K.stands table.old.shape w (slice_index_or parts.now w p).counter }
+    requires kept { (w : ℕ) (p : _) → w < length parts.now
+        → IsKept K.rules K.stands table.old.shape w (slice_index_or parts.now w p).counter }
     requires size { length table.old.cells ≡ size_of table.old.shape }
     ensures shape { table.new.shape ≡ table.old.shape }
     ensures size { length table.new.cells ≡ size_of table.new.shape }
-    ensures cells { (t : Terms) (xs : ℕ → Worker) → t.rules ≡ K.rules → ((w : ℕ) (p : _) → w < length parts.now → Keeps K.stands t w (slice_index_or parts.now w p).counter (xs w))
+    ensures cells { (t : Terms) (xs : ℕ → Worker) → t.rules ≡ K.rules
+        → ((w : ℕ) (p : _) → w < length parts.now → Keeps K.stands t w (slice_index_or parts.now w p).counter (xs w))
         → HasJoined t xs (length parts.now) (size_of table.old.shape) table.old.cells table.new.cells }
 {
     for part in parts {
@@ -101,7 +105,8 @@ fn join_residue<K: Kind>(table: &mut Table<K>, counter: &Counter<K>)
     ensures size { length table.new.cells ≡ size_of table.new.shape }
     ensures cells { (t : Terms) (w : ℕ) (x : Worker) → t.rules ≡ K.rules → Keeps K.stands t w counter.now x
         → (cell : ℕ) → cell < size_of table.old.shape
-        → value_at table.new.cells cell ≡ t.rules.join (value_at table.old.cells cell) (residue t.rules (updates_by t w) x.sent x.counted cell) }
+        → value_at table.new.cells cell ≡ t.rules.join (value_at table.old.cells cell)
+        (residue t.rules (updates_by t w) x.sent x.counted cell) }
 {
     let shape = table.shape();
     for cell in 0..shape.rows * shape.columns {

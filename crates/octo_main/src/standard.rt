@@ -48,8 +48,8 @@ pub fn program<R: Env + Alloc<A = Global> + Input + Print + Threads + Wait + Syn
                 &OpenGate,
             )
         }
-        Err(error) if error.kind() == ErrorKind::OutOfMemory => tell(&mut err, Fault::NoMemory),
-        Err(_) => tell(&mut err, Fault::Usage),
+        Err(error) if error.kind() == ErrorKind::OutOfMemory => tell(&mut err, &Fault::NoMemory),
+        Err(_) => tell(&mut err, &Fault::Usage),
     };
     exit_of(status)
 }

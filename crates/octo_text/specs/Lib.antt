@@ -3,3 +3,4 @@ pub mod ReportText
 pub mod Runs
 pub mod Content
 pub mod JournalText
+pub mod Readable

@@ -2,7 +2,7 @@ ghost use Rattle.std.specs.Prelude.{◌≡◌, ◌+◌, ◌*◌, ◌<◌, ◌≤
 ghost use Rattle.std.specs.List.{flat_map, enumerate_from};
 ghost use Rattle.flow_base.specs.Causes.{HasCause};
 ghost use Rattle.flow_base.specs.Writing.{Writes};
-ghost use Rattle.push_history.specs.Journal.{journal_in, with_journal};
+ghost use Rattle.push_history.specs.Journal.{journal_of_lists, with_journal};
 ghost use Rattle.octo_text.specs.Content.{content_of, AreComplete, IsComplete};
 ghost use Rattle.octo_text.specs.Lines.{words_line, count_line, key_line};
 ghost use Rattle.octo_text.specs.JournalText.{share_words, lane_words, query_words, options_line, terms_lines, live_lines, journal_text};
@@ -13,23 +13,15 @@ use crate::line::Line;
 use crate::lines::{put_sketch, write_count, write_keys, write_words};
 use crate::workers::write_workers;
 use flow_base::{Failed, Sink};
-use hash_rows::{Answers, BitRows, Counts, Keys, Options};
+use hash_rows::{Keys, Options};
+use push_history::RunLists;
 
 /// What a journal tells of a run.
 #[derive(Drop)]
 pub struct Journal {
     /// The options of the run. That the journal is asked for is taken as said.
     pub options: Options,
-    /// For each worker which of its updates were refused.
-    pub refused: BitRows,
-    /// The number of messages of each worker.
-    pub pushes: Counts,
-    /// By reader, then by number.
-    pub answers: Answers,
-    /// The live heavy keys, in the order of their table.
-    pub live: Keys,
-    /// The messages that reached `least` while the live table was full.
-    pub missed: u64,
+    pub lists: RunLists,
 }
 
 // Adds how packets are shared out, and how far a cell changes before it is told.
@@ -120,22 +112,17 @@ fn write_live<T: Sink>(out: &mut T, live: &Keys, missed: u64) -> Result<(), Fail
 pub fn write_journal_in<T: Sink>(
     out: &mut T,
     options: &Options,
-    refused: &BitRows,
-    pushes: &Counts,
-    answers: &Answers,
-    live: &Keys,
-    missed: u64,
+    lists: &RunLists,
 ) -> Result<(), Failed>
-    requires { AreComplete options.now refused.now.items pushes.now.items answers.now.items }
-    ensures writes { Writes (T.holds out.old) (T.holds out.new)
-        (journal_text (journal_in options.now refused.now.items pushes.now.items answers.now.items live.now.items missed)) result }
+    requires { AreComplete options.now lists.now }
+    ensures writes { Writes (T.holds out.old) (T.holds out.new) (journal_text (journal_of_lists options.now lists.now)) result }
     ensures cause { HasCause (T.faults out.old) (T.faults out.new) result }
 {
     write_words(out, b"octosketch journal 1")?;
     write_terms(out, options)?;
-    write_workers(out, pushes.as_slice(), refused.as_slice())?;
-    write_answers(out, answers.as_slice())?;
-    write_live(out, live, missed)?;
+    write_workers(out, lists.pushes.as_slice(), lists.refused.as_slice())?;
+    write_answers(out, lists.answers.as_slice())?;
+    write_live(out, &lists.live, lists.missed)?;
     write_words(out, b"end")
 }
 
@@ -146,13 +133,5 @@ pub fn write_journal<T: Sink>(out: &mut T, journal: &Journal) -> Result<(), Fail
     ensures writes { Writes (T.holds out.old) (T.holds out.new) (journal_text (content_of journal.now)) result }
     ensures cause { HasCause (T.faults out.old) (T.faults out.new) result }
 {
-    write_journal_in(
-        out,
-        &journal.options,
-        &journal.refused,
-        &journal.pushes,
-        &journal.answers,
-        &journal.live,
-        journal.missed,
-    )
+    write_journal_in(out, &journal.options, &journal.lists)
 }

@@ -17,3 +17,4 @@ pub use laws::maximal_runs;
 pub use line::Line;
 pub use lines::{write_count, write_words};
 pub use report::{Report, write_estimates, write_report, write_rows, write_sketch, write_skipped};
+pub use runs::run_end;

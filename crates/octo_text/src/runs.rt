@@ -1,4 +1,4 @@
-ghost use Rattle.std.specs.Prelude.{◌≡◌, ◌+◌, ◌<◌, ◌≤◌, ℕ, Bool, false, not, length, codes, slice_index_or};
+ghost use Rattle.std.specs.Prelude.{◌≡◌, ◌+◌, ◌<◌, ◌≤◌, ℕ, false, true, length, codes, slice_index_or};
 ghost use Rattle.std.specs.List.{flat_map};
 ghost use Rattle.flow_base.specs.Causes.{HasCause};
 ghost use Rattle.flow_base.specs.Writing.{Writes};
@@ -10,17 +10,18 @@ use crate::line::Line;
 use flow_base::{Failed, Sink};
 use hash_rows::Bits;
 
-// The first place from `start` on whose bit is set, or is clear, or else the number of bits.
-fn next_place(bits: &Bits, start: u32, set: bool) -> u32
+/// The end of the set bits that begin at the place: the first place from there on whose bit is
+/// clear, or else the number of bits.
+pub fn run_end(bits: &Bits, start: u32) -> u32
     requires { start ≤ length bits.now }
     ensures low { start ≤ result }
     ensures high { result ≤ length bits.now }
-    ensures before { (k : ℕ) → start ≤ k → k < result → slice_index_or bits.now k false ≡ not set }
-    ensures found { result < length bits.now → slice_index_or bits.now result false ≡ set }
+    ensures before { (k : ℕ) → start ≤ k → k < result → slice_index_or bits.now k false ≡ true }
+    ensures found { result < length bits.now → slice_index_or bits.now result false ≡ false }
 {
     let len = bits.len();
     for place in start..len {
-        if bits.get(place) == set {
+        if !bits.get(place) {
             return place;
         }
     }
@@ -46,11 +47,11 @@ pub(crate) fn write_runs<T: Sink>(out: &mut T, worker: usize, bits: &Bits) -> Re
     ensures cause { HasCause (T.faults out.old) (T.faults out.new) result }
 {
     let len = bits.len();
-    let mut start = next_place(bits, 0, true);
+    let mut start = bits.next(0);
     while start < len {
-        let end = next_place(bits, start, false);
+        let end = run_end(bits, start);
         write_run(out, worker, start, end - 1)?;
-        start = next_place(bits, end, true);
+        start = bits.next(end);
     }
     Ok(())
 }

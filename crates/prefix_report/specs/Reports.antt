@@ -43,7 +43,8 @@ estimated shape packets p = hit_by (level_table shape packets p.length) p
 
 -- the report tells what was read, what readers were answered in the rounds of each length, the estimates of the watched networks, and
 -- which networks reach the least number
-pub record IsPrefixReport (packets : List Packet) (records : ℕ) (skipped : Tallies) (cut : ℕ) (o : Options) (watch : List Prefix) (r : PrefixReport) : Type 0 where
+pub record IsPrefixReport (packets : List Packet) (records : ℕ) (skipped : Tallies) (cut : ℕ) (o : Options) (watch : List Prefix)
+    (r : PrefixReport) : Type 0 where
   pub shape : r.shape ≡ o.shape
   pub amount : r.amount ≡ o.amount
   pub records_are : r.records ≡ records

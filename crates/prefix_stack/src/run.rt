@@ -91,12 +91,13 @@ fn run_level<R: Threads + Sync>(
     requires watch { AreWatched watch.now }
     requires bits { IsLength bits }
     ensures table { IfOk result (λ level. level.0 ≡ level_table options.now.shape packets.now bits) }
-    ensures answers { IfOk result (λ level. AreLevelAnswers (level_packets bits packets.now) (level_options options.now watch.now bits) level.1.items) }
+    ensures answers { IfOk result (λ level. AreLevelAnswers (level_packets bits packets.now)
+        (level_options options.now watch.now bits) level.1.items) }
 {
     let packets = level_packets(alloc, packets, bits)?;
     let options = options_at(alloc, options, watch, bits)?;
     let settled = run_rounds::<CountMin, R>(rt, alloc, packets.as_slice(), &options)?;
-    Ok((settled.table, settled.answers))
+    Ok((settled.table, settled.lists.answers))
 }
 
 /// Counts the packets by their sources' networks, in a run in rounds for each of the four lengths, and

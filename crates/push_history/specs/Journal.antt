@@ -11,6 +11,7 @@ use Rattle.hash_rows.specs.declared.shape.Update.{Update}
 use Rattle.hash_rows.specs.Marks.{marked}
 use Rattle.hash_rows.specs.Rules.{Rules, rules_of}
 use Rattle.push_history.specs.declared.event.Event.{Event}
+use Rattle.push_history.specs.declared.run_lists.RunLists.{RunLists}
 use Rattle.push_history.specs.Share.{share_of_worker, zero_key}
 use Rattle.push_history.specs.Updates.{updates_of}
 use Rattle.push_history.specs.LiveHeavy.{live_keys, missed_keys}
@@ -41,6 +42,10 @@ journal_in o bits pushes answers live missed = record {
   live = live;
   missed = missed;
 }
+
+-- the journal of a run with these options and lists
+abbrev pub journal_of_lists : Options → RunLists → Journal
+journal_of_lists o lists = journal_in o lists.refused.items lists.pushes.items lists.answers.items lists.live.items lists.missed
 
 -- the keys that each ask asks for
 abbrev pub asked_keys : Sketch → List FlowKey → List FlowKey

@@ -69,14 +69,28 @@ message_of r w updates sent k =
 
 -- a push that meets a full lane
 abbrev pub meets_full : Full → Worker → Worker × Reply
-meets_full Leave worker =
-    (record { counted = worker.counted + 1; sent = worker.sent; refused = worker.refused ++ worker.counted ∷ []; taken = worker.taken }, Refused)
+meets_full Leave worker = (
+  record {
+    counted = worker.counted + 1;
+    sent = worker.sent;
+    refused = worker.refused ++ worker.counted ∷ [];
+    taken = worker.taken;
+  },
+  Refused,
+)
 meets_full Wait worker = (worker, Waits)
 
 -- a push that its lane has room for
 abbrev pub pushes : Push → Worker → Worker × Reply
-pushes message worker =
-    (record { counted = worker.counted + 1; sent = worker.sent ++ message ∷ []; refused = worker.refused; taken = worker.taken }, Pushed message.amount)
+pushes message worker = (
+  record {
+    counted = worker.counted + 1;
+    sent = worker.sent ++ message ∷ [];
+    refused = worker.refused;
+    taken = worker.taken;
+  },
+  Pushed message.amount,
+)
 
 -- worker w takes up its next update
 unfoldable pub count_step : Terms → ℕ → Worker → Worker × Reply
@@ -97,7 +111,12 @@ take_step s w =
     if worker.taken == length worker.sent then (s, Empty)
     else (
       record {
-        workers = slice_set s.workers w (record { counted = worker.counted; sent = worker.sent; refused = worker.refused; taken = worker.taken + 1 });
+        workers = slice_set s.workers w (record {
+          counted = worker.counted;
+          sent = worker.sent;
+          refused = worker.refused;
+          taken = worker.taken + 1;
+        });
         folded = s.folded ++ message ∷ [];
         shown = s.shown;
         seen = s.seen;

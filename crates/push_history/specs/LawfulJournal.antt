@@ -28,7 +28,8 @@ all_of messages = flat_map (λ sent. sent) messages
 
 -- the refused updates determine lawful messages, as many as the journal says
 pub record LawfulWorker (packets : List Packet) (o : Options) (j : Journal) (messages : List (List Push)) (w : ℕ) : Type 0 where
-  pub lawful : LawfulPushes (rules_in o) w o.threshold o.lane o.full (updates_by_options packets o w) (sent_by messages w) (slice_index_or j.refused w [])
+  pub lawful : LawfulPushes (rules_in o) w o.threshold o.lane o.full (updates_by_options packets o w) (sent_by messages w)
+      (slice_index_or j.refused w [])
   pub pushes : slice_index_or j.pushes w 0 ≡ length (sent_by messages w)
 
 -- so is it with each worker
@@ -58,7 +59,8 @@ NoFurther front other = (w : ℕ) → slice_index_or front w 0 ≤ slice_index_o
 
 -- fronts don't fall within a reader, and of any two one is at most the other
 pub record AreOrdered (answers : List AnswerParts) : Type 0 where
-  pub of_reader : (a b : AnswerParts) → Contains answers a → Contains answers b → a.reader ≡ b.reader → a.number ≤ b.number → NoFurther a.front b.front
+  pub of_reader : (a b : AnswerParts) → Contains answers a → Contains answers b → a.reader ≡ b.reader → a.number ≤ b.number
+      → NoFurther a.front b.front
   pub of_any : (a b : AnswerParts) → Contains answers a → Contains answers b → NoFurther a.front b.front ⊎ NoFurther b.front a.front
 
 -- the messages whose key isn't live

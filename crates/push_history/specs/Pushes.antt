@@ -38,8 +38,10 @@ pub record ArePushes (r : Rules) (threshold : ℕ) (updates : List Update) (mess
   pub amounts : All (TellsAll r updates messages) messages
   pub refused_rising : IsStrictlyIncreasing refused
   pub refused_within : All (λ k. k < length updates) refused
-  pub reached : (k : ℕ) → k < length updates → (is_sent k messages || is_refused k refused) ≡ true → threshold ≤ distance_at r updates messages k
-  pub below : (k : ℕ) → k < length updates → (is_sent k messages || is_refused k refused) ≡ false → distance_at r updates messages k < threshold
+  pub reached : (k : ℕ) → k < length updates → (is_sent k messages || is_refused k refused) ≡ true
+      → threshold ≤ distance_at r updates messages k
+  pub below : (k : ℕ) → k < length updates → (is_sent k messages || is_refused k refused) ≡ false
+      → distance_at r updates messages k < threshold
   pub apart : (k : ℕ) → is_sent k messages ≡ true → is_refused k refused ≡ false
 
 -- the message has the worker, and the packet and the key of its update
@@ -49,7 +51,8 @@ pub record IsNamed (worker : ℕ) (updates : List Update) (m : Push) : Type 0 wh
   pub key : m.key ≡ (update_at updates m.update).key
 
 -- the messages and the refused updates are lawful for these updates of the worker
-pub record LawfulPushes (r : Rules) (worker threshold capacity : ℕ) (full : Full) (updates : List Update) (messages : List Push) (refused : List ℕ) : Type 0 where
+pub record LawfulPushes (r : Rules) (worker threshold capacity : ℕ) (full : Full) (updates : List Update) (messages : List Push)
+    (refused : List ℕ) : Type 0 where
   pub pushes : ArePushes r threshold updates messages refused
   pub named : All (IsNamed worker updates) messages
   pub full_lane : (k : ℕ) → is_refused k refused ≡ true → capacity ≤ length (messages_before k messages)

@@ -3,6 +3,7 @@
 
 mod event;
 mod laws;
+mod run_lists;
 
 pub use event::{Event, Reply};
 pub use laws::{
@@ -10,3 +11,4 @@ pub use laws::{
     sequential_is_the_join_of_wholes, told_by_prefix, whole_is_front_flight_and_residue,
     whole_is_told_and_residue,
 };
+pub use run_lists::RunLists;

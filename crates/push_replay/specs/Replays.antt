@@ -9,6 +9,7 @@ use Rattle.push_replay.specs.declared.replay.Fault.{Fault}
 use Rattle.push_replay.specs.declared.replay.Fault.TheVariants.{TooNear, TooFew}
 use Rattle.push_replay.specs.declared.replay.Replay.{Replay}
 
+-- the fault that was found first
 abbrev pub first_of : Option Fault → Option Fault → Option Fault
 first_of None found = found
 first_of (Some fault) found = Some fault
@@ -34,7 +35,8 @@ IsFirst r w T L updates refused (Some (TooFew k n)) =
 
 module _ {K Held : Type 0} where
   -- the messages are those that the refused updates determine, and the sketch has counted all updates
-  pub record Replays (stands : Held → ℤ → ℤ → Type 0) (r : Rules) (w T : ℕ) (refused : List ℕ) (updates : List Update) (p : Replay K Held) : Type 0 where
+  pub record Replays (stands : Held → ℤ → ℤ → Type 0) (r : Rules) (w T : ℕ) (refused : List ℕ) (updates : List Update)
+      (p : Replay K Held) : Type 0 where
     pub messages : p.messages.items ≡ given_messages r w T updates refused
     pub kept : List ℕ
     pub sketch : StandsFor stands r p.sketch updates p.messages.items kept
@@ -50,6 +52,7 @@ module _ {K Held : Type 0} where
     pub idle : new.sketch.due ≡ None
 
   -- and its fault is the first that there is
-  pub record Tells (stands : Held → ℤ → ℤ → Type 0) (r : Rules) (w T : ℕ) (refused : List ℕ) (updates : List Update) (p : Replay K Held) : Type 0 where
+  pub record Tells (stands : Held → ℤ → ℤ → Type 0) (r : Rules) (w T : ℕ) (refused : List ℕ) (updates : List Update)
+      (p : Replay K Held) : Type 0 where
     pub replays : Replays stands r w T refused updates p
     pub first : IsFirst r w T p.lane updates refused p.fault

@@ -27,7 +27,8 @@ pub record Distinct (estimate_of : FlowKey → ℤ) (distinct : Option ℤ) (hea
   pub none_listed : flows ≡ []
 
 -- how many flows are heavy, and the first of them, as many as the options list
-pub record HeavyFlows (estimate_of : FlowKey → ℤ) (options : Options) (packets : List Packet) (distinct : Option ℤ) (heavy : ℕ) (flows : List Flow) : Type 0 where
+pub record HeavyFlows (estimate_of : FlowKey → ℤ) (options : Options) (packets : List Packet) (distinct : Option ℤ) (heavy : ℕ)
+    (flows : List Flow) : Type 0 where
   pub no_estimate : distinct ≡ None
   pub heaviest : AreHeaviest estimate_of options.least (map (λ p. p.key) packets) options.heavy heavy flows
 
@@ -38,7 +39,8 @@ Finds CountMin estimate_of options packets distinct heavy flows = HeavyFlows est
 Finds CountSketch estimate_of options packets distinct heavy flows = HeavyFlows estimate_of options packets distinct heavy flows
 
 -- the report tells what was read, and what the table says by the rules
-pub record Reports (rules : Rules) (table : TableView) (packets : List Packet) (records : ℕ) (skipped : Tallies) (cut : ℕ) (options : Options) (report : Report) : Type 0 where
+pub record Reports (rules : Rules) (table : TableView) (packets : List Packet) (records : ℕ) (skipped : Tallies) (cut : ℕ)
+    (options : Options) (report : Report) : Type 0 where
   pub sketch : report.sketch ≡ options.sketch
   pub shape : report.shape ≡ options.shape
   pub amount : report.amount ≡ options.amount

@@ -50,7 +50,8 @@ fn heavy_flows<K: Kind>(
     options: &Options,
     table: &Table<K>,
 ) -> Result<Findings, NoMemory>
-    ensures { IfOk result (λ f. HeavyFlows (K.rules.estimate table.now.shape table.now.cells) options.now packets.now f.distinct f.heavy f.flows.items) }
+    ensures { IfOk result
+        (λ f. HeavyFlows (K.rules.estimate table.now.shape table.now.cells) options.now packets.now f.distinct f.heavy f.flows.items) }
 {
     let heaviest = heaviest(alloc, packets, table, options.least, options.heavy)?;
     Ok(Findings {
@@ -67,7 +68,9 @@ pub fn findings_of<K: Kind>(
     options: &Options,
     table: &Table<K>,
 ) -> Result<Findings, NoMemory>
-    ensures { IfOk result (λ f. Finds K.sketch (K.rules.estimate table.now.shape table.now.cells) options.now packets.now f.distinct f.heavy f.flows.items) }
+    ensures { IfOk result
+        (λ f. Finds K.sketch
+        (K.rules.estimate table.now.shape table.now.cells) options.now packets.now f.distinct f.heavy f.flows.items) }
 {
     match K::which_sketch() {
         Sketch::LogLog => distinct_keys(alloc, table),

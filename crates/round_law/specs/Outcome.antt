@@ -9,6 +9,7 @@ use Rattle.hash_rows.specs.Sequential.{joined_of}
 use Rattle.push_history.specs.Front.{front_of, upto_of}
 use Rattle.push_history.specs.Journal.{keys_of}
 use Rattle.push_history.specs.LagRun.{Terms, Worker, State, updates_by, worker_in}
+use Rattle.push_history.specs.declared.run_lists.RunLists.{RunLists}
 use Rattle.push_history.specs.LiveHeavy.{live_keys, missed_keys}
 use Rattle.push_history.specs.Pushes.{is_refused}
 use Rattle.push_history.specs.Residue.{residue}
@@ -30,13 +31,15 @@ pub record AreMarks (t : Terms) (w : ℕ) (x : Worker) (bits : List Bool) : Type
   pub marks : (k : ℕ) → slice_index_or bits k false ≡ is_refused k x.refused
 
 -- after so many rounds no worker is busy; its refused updates, pushes, answers, live keys and missed ones are these
-pub record IsOutcome (t : Terms) (o : Options) (rounds : ℕ) (bits : List (List Bool)) (pushes : List ℕ) (answers : List Answer) (live : List FlowKey) (missed : ℕ) : Type 0 where
+pub record IsOutcome (t : Terms) (o : Options) (rounds : ℕ) (bits : List (List Bool)) (pushes : List ℕ) (answers : List Answer)
+    (live : List FlowKey) (missed : ℕ) : Type 0 where
   pub idle : is_busy t o (events_of_rounds t o rounds) ≡ false
   pub bits_len : length bits ≡ o.workers
   pub bits_are : (w : ℕ) → w < o.workers → AreMarks t w (worker_in (round_state t o rounds) w) (slice_index_or bits w [])
   pub pushes_are : pushes ≡ front_of o.workers (folded_after t o rounds)
   pub answers_len : length answers ≡ o.readers * o.asks
-  pub answers_are : (q k : ℕ) (a : Answer) → q < o.readers → k < o.asks → slice_get answers (q * o.asks + k) ≡ Some a → IsAnswerAt t o rounds q k a
+  pub answers_are : (q k : ℕ) (a : Answer) → q < o.readers → k < o.asks → slice_get answers (q * o.asks + k) ≡ Some a
+      → IsAnswerAt t o rounds q k a
   pub live_are : live ≡ live_keys t.rules o.shape o.heavy o.least (folded_after t o rounds)
   pub missed_is : missed ≡ missed_keys t.rules o.shape o.heavy o.least (folded_after t o rounds)
 
@@ -54,6 +57,10 @@ pub record IsWhole (o : Options) (bits : List (List Bool)) (pushes : List ℕ) (
   pub answers_len : length answers ≡ o.readers * o.asks
   pub fronts : All (λ a. length a.front.items ≡ o.workers) answers
   pub shown : All (λ a. length a.shown.items ≡ length (keys_of o)) answers
+
+-- the same of the lists of a run
+abbrev pub IsWholeRun : Options → RunLists → Type 0
+IsWholeRun o lists = IsWhole o lists.refused.items lists.pushes.items lists.answers.items
 
 -- the answer's last updates are those of its front, by the messages of each worker
 abbrev pub MatchesFront : State → Answer → Type 0

@@ -16,7 +16,8 @@ ghost use Rattle.round_law.specs.Outcome.{IsNearAnswer, IsOutcome, IsWhole, Matc
 
 /// What the workers' own rounds come to is the journal of the round schedule.
 pub fn outcome_is_journal()
-    ensures { (packets : List Packet) (o : Options) (rounds : ℕ) (bits : List (List Bool)) (pushes : List ℕ) (answers : List Answer) (live : List FlowKey) (missed : ℕ) →
+    ensures { (packets : List Packet) (o : Options) (rounds : ℕ) (bits : List (List Bool)) (pushes : List ℕ) (answers : List Answer)
+        (live : List FlowKey) (missed : ℕ) →
         IsLawful o → All (λ p. p.amount < 2 ^ 32) packets →
         IsOutcome (terms_of packets o) o rounds bits pushes answers live missed →
         IsRoundsJournal packets o (journal_in o bits pushes answers live missed) }
@@ -24,14 +25,16 @@ pub fn outcome_is_journal()
 
 /// It tells of each worker and each answer.
 pub fn outcome_is_whole()
-    ensures { (packets : List Packet) (o : Options) (rounds : ℕ) (bits : List (List Bool)) (pushes : List ℕ) (answers : List Answer) (live : List FlowKey) (missed : ℕ) →
+    ensures { (packets : List Packet) (o : Options) (rounds : ℕ) (bits : List (List Bool)) (pushes : List ℕ) (answers : List Answer)
+        (live : List FlowKey) (missed : ℕ) →
         IsOutcome (terms_of packets o) o rounds bits pushes answers live missed →
         IsWhole o bits pushes answers }
 {}
 
 /// Each answer's last updates are those of its front.
 pub fn answers_match_their_fronts()
-    ensures { (packets : List Packet) (o : Options) (rounds : ℕ) (bits : List (List Bool)) (pushes : List ℕ) (answers : List Answer) (live : List FlowKey) (missed : ℕ) →
+    ensures { (packets : List Packet) (o : Options) (rounds : ℕ) (bits : List (List Bool)) (pushes : List ℕ) (answers : List Answer)
+        (live : List FlowKey) (missed : ℕ) →
         IsLawful o → All (λ p. p.amount < 2 ^ 32) packets →
         IsOutcome (terms_of packets o) o rounds bits pushes answers live missed →
         (events : List Event) → AreRounds (terms_of packets o) o events →
@@ -40,7 +43,8 @@ pub fn answers_match_their_fronts()
 
 /// Each answer of a Count-Min is near the true estimate.
 pub fn answers_are_near()
-    ensures { (packets : List Packet) (o : Options) (rounds : ℕ) (bits : List (List Bool)) (pushes : List ℕ) (answers : List Answer) (live : List FlowKey) (missed : ℕ) →
+    ensures { (packets : List Packet) (o : Options) (rounds : ℕ) (bits : List (List Bool)) (pushes : List ℕ) (answers : List Answer)
+        (live : List FlowKey) (missed : ℕ) →
         IsLawful o → o.sketch ≡ CountMin → total_amount packets < 2 ^ 63 →
         IsOutcome (terms_of packets o) o rounds bits pushes answers live missed →
         (events : List Event) → AreRounds (terms_of packets o) o events →

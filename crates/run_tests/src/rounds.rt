@@ -75,8 +75,8 @@ fn options_for(
 // What the answers say: how many messages were folded, and the first estimate.
 fn answers_of<K: Kind>(settled: &Settled<K>) -> [(u64, i64); 3] {
     let mut told = [(0, 0); 3];
-    for place in 0..settled.answers.len().min(3) {
-        let answer = settled.answers.get(place);
+    for place in 0..settled.lists.answers.len().min(3) {
+        let answer = settled.lists.answers.get(place);
         if answer.shown.len() > 0 {
             told[place as usize] = (answer.folded, *answer.shown.get(0));
         }
@@ -87,8 +87,8 @@ fn answers_of<K: Kind>(settled: &Settled<K>) -> [(u64, i64); 3] {
 // Which of the first worker's six updates were refused.
 fn refused_of<K: Kind>(settled: &Settled<K>) -> [bool; 6] {
     let mut marks = [false; 6];
-    if settled.refused.len() > 0 {
-        let row = settled.refused.get(0);
+    if settled.lists.refused.len() > 0 {
+        let row = settled.lists.refused.get(0);
         for place in 0..row.len().min(6) {
             marks[place as usize] = row.get(place);
         }
@@ -113,15 +113,15 @@ fn a_full_lane_refuses(rt: HostRuntime) -> Result<(), Fail> {
     let watch = Listed::filled(rt.alloc(), 1, KEY)?;
     let options = options_for(Sketch::CountMin, ONE_CELL, 1, 32, 4, Full::Leave, watch);
     let settled = run_six::<CountMin, _>(&rt, rt.alloc(), &options)?;
-    assert_eq!(rt; settled.pushes.as_slice(), [2].as_slice());
+    assert_eq!(rt; settled.lists.pushes.as_slice(), [2].as_slice());
     assert_eq!(rt;
         refused_of(&settled),
         [false, true, true, true, false, true]
     );
     assert_eq!(rt; answers_of(&settled), [(1, 1), (2, 5), (2, 5)]);
     assert_eq!(rt; settled.table.estimate(&KEY), 6);
-    assert_eq!(rt; settled.live.as_slice(), [KEY].as_slice());
-    assert_eq!(rt; settled.missed, 0);
+    assert_eq!(rt; settled.lists.live.as_slice(), [KEY].as_slice());
+    assert_eq!(rt; settled.lists.missed, 0);
     Ok(())
 }
 
@@ -130,7 +130,7 @@ fn a_push_that_waits_comes_in_the_next_round(rt: HostRuntime) -> Result<(), Fail
     let watch = Listed::filled(rt.alloc(), 1, KEY)?;
     let options = options_for(Sketch::CountMin, ONE_CELL, 1, 32, 4, Full::Wait, watch);
     let settled = run_six::<CountMin, _>(&rt, rt.alloc(), &options)?;
-    assert_eq!(rt; settled.pushes.as_slice(), [6].as_slice());
+    assert_eq!(rt; settled.lists.pushes.as_slice(), [6].as_slice());
     assert_eq!(rt; answers_of(&settled), [(1, 1), (2, 2), (3, 3)]);
     assert_eq!(rt; settled.table.estimate(&KEY), 6);
     Ok(())
@@ -145,7 +145,7 @@ fn a_front_stands_between_two_rows(rt: HostRuntime) -> Result<(), Fail> {
     let watch = Listed::filled(rt.alloc(), 1, KEY)?;
     let options = options_for(Sketch::CountMin, shape, 2, 1, 1, Full::Leave, watch);
     let settled = run_rounds::<CountMin, _>(&rt, rt.alloc(), &[PACKET], &options)?;
-    assert_eq!(rt; settled.pushes.as_slice(), [2].as_slice());
+    assert_eq!(rt; settled.lists.pushes.as_slice(), [2].as_slice());
     assert_eq!(rt; answers_of(&settled), [(1, 0), (2, 1), (2, 1)]);
     Ok(())
 }
@@ -164,7 +164,7 @@ fn runs_the_other_kinds(rt: HostRuntime) -> Result<(), Fail> {
     let options = options_for(Sketch::LogLog, shape, 1, 32, 4, Full::Leave, none);
     let ranks = run_six::<LogLog, _>(&rt, rt.alloc(), &options)?;
     assert_eq!(rt; ranks.table.estimate(&KEY), 1);
-    assert_eq!(rt; ranks.pushes.as_slice(), [1].as_slice());
+    assert_eq!(rt; ranks.lists.pushes.as_slice(), [1].as_slice());
     assert_eq!(rt; answers_of(&ranks), [(1, 1), (1, 1), (1, 1)]);
     Ok(())
 }

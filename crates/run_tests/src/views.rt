@@ -120,8 +120,10 @@ fn read_both<R: Threads + Wait + Sync>(
     two: &mut Answer,
 ) -> bool
     requires { HasRoomFor first.old.layout.workers keys.now one.old × HasRoomFor second.old.layout.workers keys.now two.old }
-    ensures first { (first.new.book ≡ first.old.book) × (first.new.layout ≡ first.old.layout) × HasRoomFor first.old.layout.workers keys.now one.new }
-    ensures second { (second.new.book ≡ second.old.book) × (second.new.layout ≡ second.old.layout) × HasRoomFor second.old.layout.workers keys.now two.new }
+    ensures first { (first.new.book ≡ first.old.book) × (first.new.layout ≡ first.old.layout)
+        × HasRoomFor first.old.layout.workers keys.now one.new }
+    ensures second { (second.new.book ≡ second.old.book) × (second.new.layout ≡ second.old.layout)
+        × HasRoomFor second.old.layout.workers keys.now two.new }
 {
     let mut first_rises = false;
     let mut second_rises = false;
@@ -159,8 +161,10 @@ fn run_beside<R: Threads + Wait + Sync>(
     requires first { HasRoomFor first.old.layout.workers keys.now one.old }
     requires second { HasRoomFor second.old.layout.workers keys.now two.old }
     ensures writer { (writer.new.book ≡ writer.old.book) × (writer.new.layout ≡ writer.old.layout) }
-    ensures first { (first.new.book ≡ first.old.book) × (first.new.layout ≡ first.old.layout) × HasRoomFor first.old.layout.workers keys.now one.new }
-    ensures second { (second.new.book ≡ second.old.book) × (second.new.layout ≡ second.old.layout) × HasRoomFor second.old.layout.workers keys.now two.new }
+    ensures first { (first.new.book ≡ first.old.book) × (first.new.layout ≡ first.old.layout)
+        × HasRoomFor first.old.layout.workers keys.now one.new }
+    ensures second { (second.new.book ≡ second.old.book) × (second.new.layout ≡ second.old.layout)
+        × HasRoomFor second.old.layout.workers keys.now two.new }
 {
     let mut wrote = false;
     let mut rising = false;
@@ -168,7 +172,8 @@ fn run_beside<R: Threads + Wait + Sync>(
         rt,
         &mut || wrote = write_all(rt, writer, 40),
         &mut ||
-            requires { IsSync R.row × HasRoomFor first.now.layout.workers keys.now one.now × HasRoomFor second.now.layout.workers keys.now two.now }
+            requires { IsSync R.row × HasRoomFor first.now.layout.workers keys.now one.now
+                × HasRoomFor second.now.layout.workers keys.now two.now }
             ensures { (first.exit.now.book ≡ first.entry.now.book) × (first.exit.now.layout ≡ first.entry.now.layout)
                 × (second.exit.now.book ≡ second.entry.now.book) × (second.exit.now.layout ≡ second.entry.now.layout)
                 × HasRoomFor first.entry.now.layout.workers keys.entry.now one.exit.now

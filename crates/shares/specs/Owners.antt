@@ -11,4 +11,5 @@ use Rattle.shares.specs.declared.owners.Owners.TheVariants.{InTurn, Listed}
 -- the packets are shared out in turn, or by key with the worker of each
 abbrev pub AreOwners : Options → List Packet → Owners → Type 0
 AreOwners o packets InTurn = o.share ≡ Turn
-AreOwners o packets (Listed list) = (o.share ≡ Key) × (list.items ≡ map (worker_of Key o.workers packets) (range_with_len 0 (length packets)))
+AreOwners o packets (Listed list) = (o.share ≡ Key)
+    × (list.items ≡ map (worker_of Key o.workers packets) (range_with_len 0 (length packets)))

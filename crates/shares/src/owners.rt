@@ -86,7 +86,8 @@ fn amount_fits(packet: &Packet)
 
 // The positions of the packets that the worker owns.
 fn share_of_owner(alloc: Global, owners: &Listed<u32>, worker: u32) -> Result<Listed<u32>, NoMemory>
-    ensures { IfOk result (λ share. share.items ≡ filter (λ i. slice_index_or owners.now.items i 0 == worker) (range_with_len 0 (length owners.now.items))) }
+    ensures { IfOk result (λ share. share.items ≡ filter (λ i. slice_index_or owners.now.items i 0 == worker)
+        (range_with_len 0 (length owners.now.items))) }
 {
     let mut share = Listed::new(alloc, count_owned(owners, worker))?;
     for position in 0..owners.len() {

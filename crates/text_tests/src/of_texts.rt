@@ -12,6 +12,7 @@ use hash_rows::{
 use listed::Listed;
 use octo_text::{Journal, Report, maximal_runs, write_journal, write_report};
 use packet_key::FlowKey;
+use push_history::RunLists;
 use std::alloc::Global;
 use std::process::Abort;
 use std::test::Fail;
@@ -353,11 +354,13 @@ fn refusals(alloc: Global) -> Result<Journal, NoMemory>
     answers.push(answer(alloc, 2, 2, &[2], 5)?);
     Ok(Journal {
         options: options(alloc, 1, 1, pace, 3, 5)?,
-        refused,
-        pushes: list_of(alloc, &[2])?,
-        answers,
-        live: list_of(alloc, &[key(1234, 443, 6)])?,
-        missed: 0,
+        lists: RunLists {
+            refused,
+            pushes: list_of(alloc, &[2])?,
+            answers,
+            live: list_of(alloc, &[key(1234, 443, 6)])?,
+            missed: 0,
+        },
     })
 }
 
@@ -389,11 +392,13 @@ fn two_rows(alloc: Global) -> Result<Journal, NoMemory>
     answers.push(answer(alloc, 2, 2, &[2], 1)?);
     Ok(Journal {
         options: options(alloc, 2, 1, pace, 3, 1)?,
-        refused,
-        pushes: list_of(alloc, &[2])?,
-        answers,
-        live: list_of(alloc, &[key(1234, 443, 6)])?,
-        missed: 0,
+        lists: RunLists {
+            refused,
+            pushes: list_of(alloc, &[2])?,
+            answers,
+            live: list_of(alloc, &[key(1234, 443, 6)])?,
+            missed: 0,
+        },
     })
 }
 
@@ -444,11 +449,13 @@ fn many_workers(alloc: Global) -> Result<Journal, NoMemory>
     answers.push(answer(alloc, 0, 3, &counts, 3)?);
     Ok(Journal {
         options: options(alloc, 1, 16, pace, 1, 1024)?,
-        refused: no_bits(alloc, 16)?,
-        pushes: list_of(alloc, &counts)?,
-        answers,
-        live: list_of(alloc, &[])?,
-        missed: 0,
+        lists: RunLists {
+            refused: no_bits(alloc, 16)?,
+            pushes: list_of(alloc, &counts)?,
+            answers,
+            live: list_of(alloc, &[])?,
+            missed: 0,
+        },
     })
 }
 

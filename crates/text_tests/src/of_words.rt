@@ -84,6 +84,95 @@ fn refuses_what_the_grammar_lacks(rt: HostRuntime) -> Result<(), Fail> {
     Ok(())
 }
 
+// Whether the words of a line, which spaces part, are in the grammar.
+fn is_read(alloc: Global, line: &str) -> Result<bool, Fail> {
+    let mut words = Vec::new(alloc);
+    for word in line.split(' ') {
+        if !word.is_empty() {
+            words.push(word)?;
+        }
+    }
+    Ok(read(alloc, words.as_slice())?.is_some())
+}
+
+/// Numbers: the words before one, its name, and the least and the greatest that are allowed.
+const NUMBERS: [(&str, &str, u64, u64); 15] = [
+    ("run", "rows", 1, 8),
+    ("run", "columns", 1, 65536),
+    ("run", "threshold", 1, 1099511627776),
+    ("run", "lane", 1, 4096),
+    ("run", "batch", 1, 1024),
+    ("run", "round", 1, 65536),
+    ("run", "workers", 1, 16),
+    ("prefix", "readers", 0, 4),
+    ("prefix", "asks", 0, 1024),
+    ("prefix", "heavy", 1, 1024),
+    ("prefix", "least", 1, 1099511627776),
+    ("load --start 0", "records", 0, 1048576),
+    ("load --records 0", "start", 0, 4294967295),
+    ("epochs", "packets", 256, 16777216),
+    ("epochs --packets 256", "change", 1, 1099511627776),
+];
+
+#[test]
+fn numbers_lie_in_their_ranges(rt: HostRuntime) -> Result<(), Fail> {
+    let alloc = rt.alloc();
+    for (front, name, least, greatest) in NUMBERS {
+        for number in [
+            0,
+            1,
+            least.saturating_sub(1),
+            least,
+            greatest,
+            greatest.saturating_add(1),
+            4294967296,
+            u64::MAX,
+        ] {
+            let line = format!(in alloc; "{front} --{name} {number}")?;
+            let lawful = least <= number && number <= greatest;
+            assert!(rt; is_read(alloc, line.as_str())? == lawful, "{line}");
+        }
+        // 2^64, 2^64 and the least, and more digits than any number needs.
+        for number in [
+            "18446744073709551616",
+            "18446744073709551617",
+            "1000000000000000000000000000001",
+        ] {
+            let line = format!(in alloc; "{front} --{name} {number}")?;
+            assert!(rt; !is_read(alloc, line.as_str())?, "{line}");
+        }
+    }
+    Ok(())
+}
+
+#[test]
+fn sixteen_keys_are_watched_at_most(rt: HostRuntime) -> Result<(), Fail> {
+    let alloc = rt.alloc();
+    let mut line = String::from_str(alloc, "run --watch ")?;
+    for port in 1..=17u32 {
+        let key = format!(in alloc; "10.0.0.1:{port}>10.0.0.2:443/6")?;
+        line.push_str(key.as_str())?;
+        assert!(rt; is_read(alloc, line.as_str())? == (port <= 16), "{port}");
+        line.push_str(",")?;
+    }
+    Ok(())
+}
+
+#[test]
+fn a_front_of_words_is_read_where_it_is_whole(rt: HostRuntime) -> Result<(), Fail> {
+    let alloc = rt.alloc();
+    let line = "run --columns=16 --journal --watch 10.0.0.1:1234>10.0.0.2:443/17";
+    // `run` has 3 bytes, `--columns=1` ends at 15, `--columns=16` at 16, `--journal` at 26, a space may
+    // follow, and the two numbers of protocols end at 63 and 64.
+    let whole = [3, 4, 15, 16, 17, 26, 27, 63, 64];
+    for len in 0..=line.len() {
+        if let Some(front) = line.get(..len) {
+            assert!(rt; is_read(alloc, front)? == whole.contains(&len), "{front}");
+        }
+    }
+    Ok(())
+}
+
 #[test]
 fn options_have_defaults(rt: HostRuntime) -> Result<(), Fail> {
     let plain = run(rt.alloc(), &["run"])?;

@@ -22,7 +22,8 @@ use Rattle.thread_setup.specs.declared.spare.Spare.{Spare}
 
 module _ {K H : Type 0} where
   -- all parts have ended, which began as they were set up
-  pub record HaveEnded (stands : H → ℤ → ℤ → Type 0) (r : Rules) (o : Options) (packets : List Packet) (keys : List FlowKey) (lanes : List LaneView) (workers : List (WorkerPart K H)) (rest : RestPart K H) (spare : Spare K H) : Type 0 where
+  pub record HaveEnded (stands : H → ℤ → ℤ → Type 0) (r : Rules) (o : Options) (packets : List Packet) (keys : List FlowKey)
+      (lanes : List LaneView) (workers : List (WorkerPart K H)) (rest : RestPart K H) (spare : Spare K H) : Type 0 where
     pub before : Setup K H
     pub begun : IsSetUp stands r o packets before
     pub keys_are : keys ≡ before.keys.items
@@ -42,7 +43,8 @@ module _ {K H : Type 0} where
 
 module _ {K H : Type 0} where
   -- all that was sent is published; the state, the answers and the sketches are those of it, and the lists have room
-  pub record IsPublished (stands : H → ℤ → ℤ → Type 0) (r : Rules) (o : Options) (packets : List Packet) (published : List Push) (s : Spare K H) : Type 0 where
+  pub record IsPublished (stands : H → ℤ → ℤ → Type 0) (r : Rules) (o : Options) (packets : List Packet) (published : List Push)
+      (s : Spare K H) : Type 0 where
     pub told : HaveToldAll stands r o packets s.sketches.items (both_sents s.passes.items) (both_fulls s.passes.items)
     pub taken : AreTaken r (layout_in o) (both_sents s.passes.items) published
     pub fit : Fit r (layout_in o) published

@@ -22,7 +22,8 @@ residue_of r c cell = residue r c.updates c.messages (length c.updates) cell
 
 -- the residues of the first n workers are joined into each cell
 abbrev pub HasJoined : Rules → (ℕ → Counted) → ℕ → ℕ → List ℤ → List ℤ → Type 0
-HasJoined r by n size old new = (cell : ℕ) → cell < size → value_at new cell ≡ fold r.join (value_at old cell) (map (λ w. residue_of r (by w) cell) (range_with_len 0 n))
+HasJoined r by n size old new = (cell : ℕ) → cell < size
+    → value_at new cell ≡ fold r.join (value_at old cell) (map (λ w. residue_of r (by w) cell) (range_with_len 0 n))
 
 -- the sketch is that of a worker, for a table of this shape
 pub record IsFor {H : Type 0} (stands : H → ℤ → ℤ → Type 0) (r : Rules) (shape : Shape) (s : PrivateView H) : Type 0 where

@@ -19,7 +19,8 @@ updates_by_rules r packets o w = updates_of r o.shape packets (share_of_worker o
 module _ {H : Type 0} where
   -- the worker counted these updates; what was sent and what was refused is lawful for them; and where pushes don't
   -- wait, the lane was full as often as an update was refused
-  pub record HasToldAll (stands : H → ℤ → ℤ → Type 0) (r : Rules) (o : Options) (w : ℕ) (sketch : PrivateView H) (sent : List Push) (fulls : ℕ) (updates : List Update) (refused : List ℕ) : Type 0 where
+  pub record HasToldAll (stands : H → ℤ → ℤ → Type 0) (r : Rules) (o : Options) (w : ℕ) (sketch : PrivateView H) (sent : List Push)
+      (fulls : ℕ) (updates : List Update) (refused : List ℕ) : Type 0 where
     pub stands_for : StandsFor stands r sketch updates sent refused
     pub lawful : LawfulPushes r w o.threshold o.lane o.full updates sent refused
     pub fulls_are : o.full ≡ Leave → fulls ≡ length refused
@@ -27,9 +28,11 @@ module _ {H : Type 0} where
     pub cells : length sketch.held ≡ size_of o.shape
 
   -- each worker counted all its updates
-  pub record HaveToldAll (stands : H → ℤ → ℤ → Type 0) (r : Rules) (o : Options) (packets : List Packet) (sketches : List (PrivateView H)) (sents : List (List Push)) (fulls : List ℕ) : Type 0 where
+  pub record HaveToldAll (stands : H → ℤ → ℤ → Type 0) (r : Rules) (o : Options) (packets : List Packet) (sketches : List (PrivateView H))
+      (sents : List (List Push)) (fulls : List ℕ) : Type 0 where
     pub refused : ℕ → List ℕ
     pub sketches_len : length sketches ≡ o.workers
     pub sents_len : length sents ≡ o.workers
     pub each : (w : ℕ) (s : PrivateView H) → w < o.workers
-        → HasToldAll stands r o w (slice_index_or sketches w s) (slice_index_or sents w []) (slice_index_or fulls w 0) (updates_by_rules r packets o w) (refused w)
+        → HasToldAll stands r o w (slice_index_or sketches w s) (slice_index_or sents w []) (slice_index_or fulls w 0)
+        (updates_by_rules r packets o w) (refused w)

@@ -7,7 +7,7 @@ ghost use Rattle.hash_rows.specs.declared.options.Full.TheVariants.{Leave};
 ghost use Rattle.hash_rows.specs.declared.shape.Push.{Push};
 ghost use Rattle.push_lane.specs.Views.{LaneView};
 ghost use Rattle.thread_ends.specs.Ends.{AreOf, both_fulls, both_sents, both_takens, kept_in};
-ghost use Rattle.thread_law.specs.Ran.{HasRan, refused_by};
+ghost use Rattle.thread_law.specs.Ran.{HasRunTo, refused_by};
 ghost use Rattle.thread_engine.specs.Ended.{HaveEnded, IsPublished, KeepsRooms};
 ghost use Rattle.thread_engine.specs.Left.{AreDrained};
 
@@ -21,6 +21,7 @@ use listed::Listed;
 use live_state::State;
 use live_view::ViewWriter;
 use octo_engine::Settled;
+use push_history::RunLists;
 use push_rule::Private;
 use std::sync::Wait;
 use thread_ends::{drain_all, gather_answers, take_in_all};
@@ -43,9 +44,8 @@ pub fn settle<K: Kind, R: Wait>(
     requires sketch { options.now.sketch ≡ K.sketch }
     requires amounts { All (λ p. p.amount < 2 ^ 32) packets.now }
     requires ended { HaveEnded K.stands K.rules options.now packets.now keys.now.items lanes.items workers.items rest spare }
-    ensures drained { IfOk result (λ r. AreDrained options.now r.lanes.items r.passes.items r.settled.refused.items) }
-    ensures ran { IfOk result (λ r. HasRan packets.now options.now (both_sents r.passes.items) r.writer.published
-        r.settled.refused.items r.settled.pushes.items r.settled.answers.items r.settled.live.items r.settled.missed) }
+    ensures drained { IfOk result (λ r. AreDrained options.now r.lanes.items r.passes.items r.settled.lists.refused.items) }
+    ensures ran { IfOk result (λ r. HasRunTo packets.now options.now (both_sents r.passes.items) r.writer.published r.settled.lists) }
     ensures table { IfOk result (λ r. r.settled.table ≡ sequential_table K.rules options.now.shape packets.now) }
 {
     let RestPart { fold, readers } = rest;
@@ -132,10 +132,9 @@ fn conclude<K: Kind>(
     requires published { (published : List Push) × IsPublished K.stands K.rules options.now packets.now published spare }
     ensures passes { result.1.items ≡ spare.passes.items }
     ensures fulls { (w : ℕ) → w < options.now.workers → options.now.full ≡ Leave
-        → slice_index_or (both_fulls spare.passes.items) w 0 ≡ length (refused_by result.0.refused.items w) }
+        → slice_index_or (both_fulls spare.passes.items) w 0 ≡ length (refused_by result.0.lists.refused.items w) }
     ensures ran { (published : List Push) → IsPublished K.stands K.rules options.now packets.now published spare
-        → HasRan packets.now options.now (both_sents spare.passes.items) published
-        result.0.refused.items result.0.pushes.items result.0.answers.items result.0.live.items result.0.missed }
+        → HasRunTo packets.now options.now (both_sents spare.passes.items) published result.0.lists }
     ensures table { result.0.table ≡ sequential_table K.rules options.now.shape packets.now }
 {
     let _packets = packets;
@@ -156,13 +155,12 @@ fn conclude<K: Kind>(
     let mut table = state.into_table();
     join_residues(&mut table, sketches.as_slice());
     fill_refused(sketches, &mut refused);
-    let settled = Settled {
-        table,
+    let lists = RunLists {
         refused,
         pushes,
         answers,
         live,
         missed,
     };
-    (settled, passes)
+    (Settled { table, lists }, passes)
 }

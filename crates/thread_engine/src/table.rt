@@ -18,7 +18,8 @@ pub fn join_residues<K: Kind>(table: &mut Table<K>, sketches: &[Private<K>])
     ensures shape { table.new.shape ≡ table.old.shape }
     ensures size { length table.new.cells ≡ size_of table.new.shape }
     ensures joined { (by : ℕ → Counted)
-        → ((w : ℕ) (s : _) → w < length sketches.now → StandsFor K.stands K.rules (slice_index_or sketches.now w s) (by w).updates (by w).messages (by w).refused)
+        → ((w : ℕ) (s : _) → w < length sketches.now
+        → StandsFor K.stands K.rules (slice_index_or sketches.now w s) (by w).updates (by w).messages (by w).refused)
         → HasJoined K.rules by (length sketches.now) (size_of table.old.shape) table.old.cells table.new.cells }
 {
     for sketch in sketches {
@@ -32,9 +33,11 @@ fn join_residue<K: Kind>(table: &mut Table<K>, sketch: &Private<K>)
     requires one { IsFor K.stands K.rules table.old.shape sketch.now }
     ensures shape { table.new.shape ≡ table.old.shape }
     ensures size { length table.new.cells ≡ size_of table.new.shape }
-    ensures joined { (updates : List Update) (messages : List Push) (refused : List ℕ) → StandsFor K.stands K.rules sketch.now updates messages refused
+    ensures joined { (updates : List Update) (messages : List Push) (refused : List ℕ)
+        → StandsFor K.stands K.rules sketch.now updates messages refused
         → (cell : ℕ) → cell < size_of table.old.shape
-        → value_at table.new.cells cell ≡ K.rules.join (value_at table.old.cells cell) (residue K.rules updates messages (length updates) cell) }
+        → value_at table.new.cells cell ≡ K.rules.join (value_at table.old.cells cell)
+        (residue K.rules updates messages (length updates) cell) }
 {
     let shape = table.shape();
     for cell in 0..shape.rows * shape.columns {

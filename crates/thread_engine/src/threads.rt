@@ -4,11 +4,11 @@ ghost use Rattle.hash_rows.specs.Lawful.{IsLawful};
 ghost use Rattle.hash_rows.specs.Sequential.{sequential_table};
 ghost use Rattle.hash_rows.specs.declared.options.Mode.TheVariants.{Threads as InThreads};
 ghost use Rattle.hash_rows.specs.declared.options.Sketch.TheVariants.{CountMin};
-ghost use Rattle.push_history.specs.Journal.{journal_in};
+ghost use Rattle.push_history.specs.Journal.{journal_of_lists};
 ghost use Rattle.push_history.specs.LawfulJournal.{LawfulJournal};
-ghost use Rattle.round_law.specs.Outcome.{IsWhole};
+ghost use Rattle.round_law.specs.Outcome.{IsWholeRun};
 ghost use Rattle.thread_ends.specs.Ends.{both_sents};
-ghost use Rattle.thread_law.specs.Ran.{HasRan, MatchesItsFront, ShowsNear};
+ghost use Rattle.thread_law.specs.Ran.{HasRunTo, MatchesItsFront, ShowsNear};
 ghost use Rattle.thread_engine.specs.Left.{AreDrained};
 
 use crate::settling::settle;
@@ -47,15 +47,14 @@ pub fn run_threads<K: Kind, R: Threads + Wait + Sync, G: Gate>(
     requires sketch { options.now.sketch ≡ K.sketch }
     requires mode { options.now.mode ≡ InThreads }
     requires packets { length packets.now ≤ 16777216 }
-    ensures drained { IfOk result (λ r. AreDrained options.now r.lanes.items r.passes.items r.settled.refused.items) }
-    ensures ran { IfOk result (λ r. HasRan packets.now options.now (both_sents r.passes.items) r.writer.published
-        r.settled.refused.items r.settled.pushes.items r.settled.answers.items r.settled.live.items r.settled.missed) }
-    ensures journal { IfOk result (λ r. LawfulJournal packets.now options.now
-        (journal_in options.now r.settled.refused.items r.settled.pushes.items r.settled.answers.items r.settled.live.items r.settled.missed)) }
-    ensures whole { IfOk result (λ r. IsWhole options.now r.settled.refused.items r.settled.pushes.items r.settled.answers.items) }
-    ensures upto { IfOk result (λ r. All (MatchesItsFront (both_sents r.passes.items)) r.settled.answers.items) }
+    ensures drained { IfOk result (λ r. AreDrained options.now r.lanes.items r.passes.items r.settled.lists.refused.items) }
+    ensures ran { IfOk result (λ r. HasRunTo packets.now options.now (both_sents r.passes.items) r.writer.published r.settled.lists) }
+    ensures journal { IfOk result (λ r. LawfulJournal packets.now options.now (journal_of_lists options.now r.settled.lists)) }
+    ensures whole { IfOk result (λ r. IsWholeRun options.now r.settled.lists) }
+    ensures upto { IfOk result (λ r. All (MatchesItsFront (both_sents r.passes.items)) r.settled.lists.answers.items) }
     ensures bracket { IfOk result (λ r. options.now.sketch ≡ CountMin
-        → All (ShowsNear packets.now options.now (both_sents r.passes.items) r.settled.refused.items) r.settled.answers.items) }
+        → All (ShowsNear packets.now options.now (both_sents r.passes.items) r.settled.lists.refused.items)
+        r.settled.lists.answers.items) }
     ensures table { IfOk result (λ r. r.settled.table ≡ sequential_table K.rules options.now.shape packets.now) }
 {
     let Setup {

@@ -11,6 +11,7 @@ use Rattle.hash_rows.specs.Sequential.{joined_of}
 use Rattle.push_history.specs.Front.{upto_of}
 use Rattle.push_history.specs.Journal.{keys_of, rules_in, terms_of, updates_by_options}
 use Rattle.push_history.specs.LawfulJournal.{sent_by}
+use Rattle.push_history.specs.declared.run_lists.RunLists.{RunLists}
 use Rattle.push_history.specs.LiveHeavy.{live_keys, missed_keys}
 use Rattle.push_history.specs.Pushes.{LawfulPushes}
 use Rattle.push_history.specs.Residue.{residue}
@@ -38,17 +39,20 @@ StandsAt o answers q k a = slice_get answers (q * o.asks + k) ≡ Some a
 pub record AreAnswers (o : Options) (folded : List Push) (answers : List Answer) : Type 0 where
   pub len : length answers ≡ o.readers * o.asks
   pub each : (q k : ℕ) (a : Answer) → q < o.readers → k < o.asks → StandsAt o answers q k a → IsAnswer o folded q k a
-  pub rising : (q j k : ℕ) (a b : Answer) → q < o.readers → j ≤ k → k < o.asks → StandsAt o answers q j a → StandsAt o answers q k b → a.folded ≤ b.folded
+  pub rising : (q j k : ℕ) (a b : Answer) → q < o.readers → j ≤ k → k < o.asks → StandsAt o answers q j a → StandsAt o answers q k b
+      → a.folded ≤ b.folded
 
 -- the messages of each worker and its refused updates are lawful up to all its updates
 abbrev pub AreLawful : List Packet → Options → List (List Push) → List (List Bool) → Type 0
 AreLawful packets o messages bits =
-    (w : ℕ) → w < o.workers → LawfulPushes (rules_in o) w o.threshold o.lane o.full (updates_by_options packets o w) (sent_by messages w) (refused_by bits w)
+    (w : ℕ) → w < o.workers
+    → LawfulPushes (rules_in o) w o.threshold o.lane o.full (updates_by_options packets o w) (sent_by messages w) (refused_by bits w)
 
 -- the messages of each worker and its refused updates are lawful; the fold has these messages, in order, and no others;
 -- pushes are their numbers; the answers are those of beginnings of the fold; live keys and missed ones are those of all
 -- of it
-pub record HasRan (packets : List Packet) (o : Options) (messages : List (List Push)) (folded : List Push) (bits : List (List Bool)) (pushes : List ℕ) (answers : List Answer) (live : List FlowKey) (missed : ℕ) : Type 0 where
+pub record HasRan (packets : List Packet) (o : Options) (messages : List (List Push)) (folded : List Push) (bits : List (List Bool))
+    (pushes : List ℕ) (answers : List Answer) (live : List FlowKey) (missed : ℕ) : Type 0 where
   pub bits_len : length bits ≡ o.workers
   pub messages_len : length messages ≡ o.workers
   pub each : AreLawful packets o messages bits
@@ -59,10 +63,16 @@ pub record HasRan (packets : List Packet) (o : Options) (messages : List (List P
   pub live_are : live ≡ live_keys (rules_in o) o.shape o.heavy o.least folded
   pub missed_is : missed ≡ missed_keys (rules_in o) o.shape o.heavy o.least folded
 
+-- the same of the lists of a run
+abbrev pub HasRunTo : List Packet → Options → List (List Push) → List Push → RunLists → Type 0
+HasRunTo packets o messages folded lists =
+    HasRan packets o messages folded lists.refused.items lists.pushes.items lists.answers.items lists.live.items lists.missed
+
 -- what all messages tell of a cell, and then each worker's residue joined in
 unfoldable pub settled_of : List Packet → Options → List (List Push) → List Push → ℕ → ℤ
 settled_of packets o messages folded cell =
-    let residue_by : ℕ → ℤ = λ w. residue (rules_in o) (updates_by_options packets o w) (sent_by messages w) (length (updates_by_options packets o w)) cell in
+    let residue_by : ℕ → ℤ = λ w. residue (rules_in o) (updates_by_options packets o w) (sent_by messages w)
+    (length (updates_by_options packets o w)) cell in
     joined_of (rules_in o) (told_of (rules_in o) cell folded ∷ map residue_by (range_with_len 0 o.workers))
 
 -- the answer's last updates are those of its front, by the messages of each worker

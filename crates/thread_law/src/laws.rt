@@ -18,7 +18,8 @@ ghost use Rattle.thread_law.specs.Ran.{AreLawful, HasRan, MatchesItsFront, Shows
 
 /// What the parts of a run in threads leave is a lawful journal.
 pub fn threads_journal_is_lawful()
-    ensures { (packets : List Packet) (o : Options) (messages : List (List Push)) (folded : List Push) (bits : List (List Bool)) (pushes : List ℕ) (answers : List Answer) (live : List FlowKey) (missed : ℕ) →
+    ensures { (packets : List Packet) (o : Options) (messages : List (List Push)) (folded : List Push) (bits : List (List Bool))
+        (pushes : List ℕ) (answers : List Answer) (live : List FlowKey) (missed : ℕ) →
         IsLawful o → o.mode ≡ Threads → total_amount packets < 2 ^ 63 →
         HasRan packets o messages folded bits pushes answers live missed →
         LawfulJournal packets o (journal_in o bits pushes answers live missed) }
@@ -26,21 +27,24 @@ pub fn threads_journal_is_lawful()
 
 /// It tells of each worker and each answer.
 pub fn ran_is_whole()
-    ensures { (packets : List Packet) (o : Options) (messages : List (List Push)) (folded : List Push) (bits : List (List Bool)) (pushes : List ℕ) (answers : List Answer) (live : List FlowKey) (missed : ℕ) →
+    ensures { (packets : List Packet) (o : Options) (messages : List (List Push)) (folded : List Push) (bits : List (List Bool))
+        (pushes : List ℕ) (answers : List Answer) (live : List FlowKey) (missed : ℕ) →
         HasRan packets o messages folded bits pushes answers live missed →
         IsWhole o bits pushes answers }
 {}
 
 /// Each answer's last updates are those of its front.
 pub fn answers_match_their_fronts()
-    ensures { (packets : List Packet) (o : Options) (messages : List (List Push)) (folded : List Push) (bits : List (List Bool)) (pushes : List ℕ) (answers : List Answer) (live : List FlowKey) (missed : ℕ) →
+    ensures { (packets : List Packet) (o : Options) (messages : List (List Push)) (folded : List Push) (bits : List (List Bool))
+        (pushes : List ℕ) (answers : List Answer) (live : List FlowKey) (missed : ℕ) →
         HasRan packets o messages folded bits pushes answers live missed →
         All (MatchesItsFront messages) answers }
 {}
 
 /// Each answer of a Count-Min is near the true estimate.
 pub fn answers_are_near()
-    ensures { (packets : List Packet) (o : Options) (messages : List (List Push)) (folded : List Push) (bits : List (List Bool)) (pushes : List ℕ) (answers : List Answer) (live : List FlowKey) (missed : ℕ) →
+    ensures { (packets : List Packet) (o : Options) (messages : List (List Push)) (folded : List Push) (bits : List (List Bool))
+        (pushes : List ℕ) (answers : List Answer) (live : List FlowKey) (missed : ℕ) →
         IsLawful o → o.sketch ≡ CountMin → total_amount packets < 2 ^ 63 →
         HasRan packets o messages folded bits pushes answers live missed →
         All (ShowsNear packets o messages bits) answers }
@@ -48,7 +52,8 @@ pub fn answers_are_near()
 
 /// With each worker's residue joined in, the fold is the sequential sketch.
 pub fn ran_is_sequential()
-    ensures { (packets : List Packet) (o : Options) (messages : List (List Push)) (folded : List Push) (bits : List (List Bool)) (pushes : List ℕ) (answers : List Answer) (live : List FlowKey) (missed : ℕ) →
+    ensures { (packets : List Packet) (o : Options) (messages : List (List Push)) (folded : List Push) (bits : List (List Bool))
+        (pushes : List ℕ) (answers : List Answer) (live : List FlowKey) (missed : ℕ) →
         IsLawful o → All (λ p. p.amount < 2 ^ 32) packets →
         HasRan packets o messages folded bits pushes answers live missed →
         (cell : ℕ) → settled_of packets o messages folded cell ≡ sequential (rules_in o) o.shape packets cell }

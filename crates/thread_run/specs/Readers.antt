@@ -16,7 +16,8 @@ pub record AreAsked (r : Rules) (keys : List FlowKey) (old : List Answer) (view 
   pub seen : ℕ → ℕ
   pub within : (k : ℕ) → k < n → seen k ≤ length view.known
   pub rising : (j k : ℕ) → j ≤ k → k < n → seen j ≤ seen k
-  pub each : (k : ℕ) (d : Answer) → k < n → IsCopyOf r (state_after r view.layout (take (seen k) view.known)) keys (slice_index_or answers k d)
+  pub each : (k : ℕ) (d : Answer) → k < n
+      → IsCopyOf r (state_after r view.layout (take (seen k) view.known)) keys (slice_index_or answers k d)
 
 module _ {K H : Type 0} where
   -- all asks of the reader were made
@@ -29,7 +30,8 @@ module _ {K H : Type 0} where
 
   -- the lists of each reader's answers have room
   pub record HaveRoom (keys : List FlowKey) (parts : List (ReaderPart K H)) : Type 0 where
-    pub each : (i : ℕ) (p : ReaderPart K H) → i < length parts → All (HasRoomFor (slice_index_or parts i p).view.layout.workers keys) (slice_index_or parts i p).answers.items
+    pub each : (i : ℕ) (p : ReaderPart K H) → i < length parts
+        → All (HasRoomFor (slice_index_or parts i p).view.layout.workers keys) (slice_index_or parts i p).answers.items
 
   -- all readers made their asks
   pub record HaveAsked (r : Rules) (keys : List FlowKey) (old new : List (ReaderPart K H)) : Type 0 where

@@ -13,7 +13,8 @@ use Rattle.thread_work.specs.Worked.{HasTold, KeepsSketch}
 
 module _ {K H : Type 0} where
   -- nothing was counted, and nothing sent through the pass, which is one of this lane
-  pub record IsReady (stands : H → ℤ → ℤ → Type 0) (r : Rules) (o : Options) (packets : List Packet) (lane : LaneView) (p : WorkerPart K H) : Type 0 where
+  pub record IsReady (stands : H → ℤ → ℤ → Type 0) (r : Rules) (o : Options) (packets : List Packet) (lane : LaneView)
+      (p : WorkerPart K H) : Type 0 where
     pub share : AreRising (length packets) p.share
     pub fresh : StandsFor stands r p.sketch [] [] []
     pub idle : p.sketch.due ≡ None
@@ -24,7 +25,8 @@ module _ {K H : Type 0} where
     pub fulls : p.pass.fulls ≡ 0
 
   -- what the worker did of its share
-  pub record HasWorked (stands : H → ℤ → ℤ → Type 0) (r : Rules) (o : Options) (packets : List Packet) (w : ℕ) (lane : LaneView) (old new : WorkerPart K H) : Type 0 where
+  pub record HasWorked (stands : H → ℤ → ℤ → Type 0) (r : Rules) (o : Options) (packets : List Packet) (w : ℕ) (lane : LaneView)
+      (old new : WorkerPart K H) : Type 0 where
     pub share : new.share ≡ old.share
     pub idle : new.sketch.due ≡ None
     pub same : KeepsSketch old.sketch new.sketch
@@ -32,10 +34,14 @@ module _ {K H : Type 0} where
     pub told : HasTold stands r w lane.capacity o.full new.sketch new.pass (updates_of r o.shape packets old.share)
 
   -- each worker's part is ready, with the lane at its place
-  pub record AreReady (stands : H → ℤ → ℤ → Type 0) (r : Rules) (o : Options) (packets : List Packet) (lanes : List LaneView) (parts : List (WorkerPart K H)) : Type 0 where
-    pub each : (i : ℕ) (l : LaneView) (p : WorkerPart K H) → i < length lanes → IsReady stands r o packets (slice_index_or lanes i l) (slice_index_or parts i p)
+  pub record AreReady (stands : H → ℤ → ℤ → Type 0) (r : Rules) (o : Options) (packets : List Packet) (lanes : List LaneView)
+      (parts : List (WorkerPart K H)) : Type 0 where
+    pub each : (i : ℕ) (l : LaneView) (p : WorkerPart K H) → i < length lanes
+        → IsReady stands r o packets (slice_index_or lanes i l) (slice_index_or parts i p)
 
   -- each worker did its share
-  pub record HaveWorked (stands : H → ℤ → ℤ → Type 0) (r : Rules) (o : Options) (packets : List Packet) (lanes : List LaneView) (old new : List (WorkerPart K H)) : Type 0 where
+  pub record HaveWorked (stands : H → ℤ → ℤ → Type 0) (r : Rules) (o : Options) (packets : List Packet) (lanes : List LaneView)
+      (old new : List (WorkerPart K H)) : Type 0 where
     pub len : length new ≡ length old
-    pub each : (i : ℕ) (l : LaneView) (p : WorkerPart K H) → i < length lanes → HasWorked stands r o packets i (slice_index_or lanes i l) (slice_index_or old i p) (slice_index_or new i p)
+    pub each : (i : ℕ) (l : LaneView) (p : WorkerPart K H) → i < length lanes
+        → HasWorked stands r o packets i (slice_index_or lanes i l) (slice_index_or old i p) (slice_index_or new i p)

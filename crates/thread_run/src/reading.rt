@@ -30,7 +30,8 @@ fn ask_once<K: Kind, R: Wait>(
     ensures len { length answers.new.items ≡ length answers.old.items }
     ensures others { (k : ℕ) (d : Answer) → k ≢ number → slice_index_or answers.new.items k d ≡ slice_index_or answers.old.items k d }
     ensures rest { (d : Answer) → KeepsRest (slice_index_or answers.old.items number d) (slice_index_or answers.new.items number d) }
-    ensures one { (d : Answer) → IsCopyOf K.rules (state_after K.rules view.new.layout view.new.known) keys.now (slice_index_or answers.new.items number d) }
+    ensures one { (d : Answer)
+        → IsCopyOf K.rules (state_after K.rules view.new.layout view.new.known) keys.now (slice_index_or answers.new.items number d) }
 {
     view.ask(rt, keys, answers.get_mut(number));
 }

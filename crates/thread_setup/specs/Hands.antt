@@ -26,7 +26,8 @@ module _ {K H : Type 0} where
     pub capacity : All (λ l. l.capacity ≡ o.lane) h.lanes.items
     pub workers_len : length h.workers.items ≡ n
     pub ready : AreReady stands r o packets h.lanes.items h.workers.items
-    pub shares : (w : ℕ) (p : WorkerPart K H) → w < n → (slice_index_or h.workers.items w p).share ≡ share_of_worker o.share o.workers packets w
+    pub shares : (w : ℕ) (p : WorkerPart K H) → w < n
+        → (slice_index_or h.workers.items w p).share ≡ share_of_worker o.share o.workers packets w
     pub thresholds : (w : ℕ) (p : WorkerPart K H) → w < n → (slice_index_or h.workers.items w p).sketch.threshold ≡ o.threshold
     pub ends : AreEnds h.lanes.items h.outs.items
     pub untaken : All (λ e. e.taken ≡ []) h.outs.items

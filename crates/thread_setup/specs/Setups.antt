@@ -42,7 +42,8 @@ module _ {K H : Type 0} where
     pub known : p.view.known ≡ []
     pub asks : length p.answers.items ≡ o.asks
     pub room : All (HasRoomFor o.workers (keys_of o)) p.answers.items
-    pub numbered : (k : ℕ) (d : Answer) → k < o.asks → ((slice_index_or p.answers.items k d).reader ≡ q) × ((slice_index_or p.answers.items k d).number ≡ k)
+    pub numbered : (k : ℕ) (d : Answer) → k < o.asks → ((slice_index_or p.answers.items k d).reader ≡ q)
+        × ((slice_index_or p.answers.items k d).number ≡ k)
 
   -- so of the first n readers
   abbrev pub AreReaders : Options → WriterView → ℕ → List (ReaderPart K H) → Type 0
@@ -55,7 +56,8 @@ module _ {K H : Type 0} where
     pub capacity : All (λ l. l.capacity ≡ o.lane) s.lanes.items
     pub workers_len : length s.workers.items ≡ o.workers
     pub ready : AreReady stands r o packets s.lanes.items s.workers.items
-    pub shares : (w : ℕ) (p : WorkerPart K H) → w < o.workers → (slice_index_or s.workers.items w p).share ≡ share_of_worker o.share o.workers packets w
+    pub shares : (w : ℕ) (p : WorkerPart K H) → w < o.workers
+        → (slice_index_or s.workers.items w p).share ≡ share_of_worker o.share o.workers packets w
     pub thresholds : (w : ℕ) (p : WorkerPart K H) → w < o.workers → (slice_index_or s.workers.items w p).sketch.threshold ≡ o.threshold
     pub ends : AreEnds s.lanes.items s.rest.fold.aggregator.outs
     pub layout : s.rest.fold.aggregator.writer.layout ≡ layout_in o

@@ -20,7 +20,9 @@ pub record KeepsSketch {Held : Type 0} (old new : PrivateView Held) : Type 0 whe
 
 -- the sketch has counted these updates. What was sent through the pass, and what was refused, is lawful for them; and
 -- where pushes don't wait, the lane was full as often as an update was refused
-pub record HasTold {Held : Type 0} (stands : Held → ℤ → ℤ → Type 0) (r : Rules) (worker capacity : ℕ) (full : Full) (sketch : PrivateView Held) (pass : InView) (updates : List Update) : Type 0 where
+pub record HasTold {Held : Type 0} (stands : Held → ℤ → ℤ
+    → Type 0) (r : Rules) (worker capacity : ℕ) (full : Full) (sketch : PrivateView Held) (pass : InView)
+    (updates : List Update) : Type 0 where
   pub refused : List ℕ
   pub sketch_is : StandsFor stands r sketch updates pass.sent refused
   pub lawful : LawfulPushes r worker sketch.threshold capacity full updates pass.sent refused

@@ -17,7 +17,8 @@ fn send<R: Wait>(rt: &R, full: Full, lane: &Lane, pass: &mut InPass, message: Pu
     ensures lane { pass.new.id ≡ pass.old.id }
     ensures sent { MatchBool result
         ((pass.new.sent ≡ pass.old.sent ++ message ∷ []) × (full ≡ Leave → pass.new.fulls ≡ pass.old.fulls))
-        ((full ≡ Leave) × (pass.new.sent ≡ pass.old.sent) × (pass.new.fulls ≡ one_more pass.old.fulls) × (lane.now.capacity ≤ length pass.old.sent)) }
+        ((full ≡ Leave) × (pass.new.sent ≡ pass.old.sent) × (pass.new.fulls ≡ one_more pass.old.fulls)
+        × (lane.now.capacity ≤ length pass.old.sent)) }
 {
     match full {
         Full::Leave => lane.push(rt, pass, message).is_ok(),

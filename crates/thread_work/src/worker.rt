@@ -39,7 +39,8 @@ fn tell_packet<K: Kind, R: Wait>(
     ensures lane { pass.new.id ≡ lane.now.id }
     ensures few { length pass.new.sent ≤ sketch.new.counted }
     ensures told { (updates : List Update) → HasTold K.stands K.rules worker lane.now.capacity full sketch.old pass.old updates
-        → HasTold K.stands K.rules worker lane.now.capacity full sketch.new pass.new (updates ++ updates_of_packet K.rules shape.now position packet.now shape.now.rows) }
+        → HasTold K.stands K.rules worker lane.now.capacity full sketch.new pass.new
+        (updates ++ updates_of_packet K.rules shape.now position packet.now shape.now.rows) }
 {
     let _amount = packet.amount;
     let key = packet.key;
@@ -81,7 +82,8 @@ pub fn work<K: Kind, R: Wait, G: Gate>(
     ensures idle { sketch.new.due ≡ None }
     ensures same { KeepsSketch sketch.old sketch.new }
     ensures lane { pass.new.id ≡ lane.now.id }
-    ensures told { HasTold K.stands K.rules worker lane.now.capacity full sketch.new pass.new (updates_of K.rules shape.now packets.now share.now) }
+    ensures told { HasTold K.stands K.rules worker lane.now.capacity full sketch.new pass.new
+        (updates_of K.rules shape.now packets.now share.now) }
 {
     for place in 0..share.len() {
         gate.pass(worker, place);

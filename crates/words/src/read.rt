@@ -53,7 +53,8 @@ fn read_run(alloc: Global, rest: &[String]) -> Result<Command, WordStop>
 
 // The words behind `load`.
 fn read_load(alloc: Global, rest: &[String]) -> Result<Command, WordStop>
-    ensures ok { IfOk result (λ c. (n : ℕ) × (k : ℕ) × (o : Options) × (c ≡ Command.Load n k o) × GivesLoad (map string_bytes rest.now) n k o) }
+    ensures ok { IfOk result (λ c. (n : ℕ) × (k : ℕ) × (o : Options) × (c ≡ Command.Load n k o)
+        × GivesLoad (map string_bytes rest.now) n k o) }
     ensures once { IfOk result (λ c. (n k : ℕ) → (d : Options) → GivesLoad (map string_bytes rest.now) n k d → c ≡ Command.Load n k d) }
     ensures usage { IfErr result (λ e. e ≡ WordStop.Usage → (n k : ℕ) → (o : Options) → GivesLoad (map string_bytes rest.now) n k o → ⊥) }
 {

@@ -1,4 +1,4 @@
-use Rattle.std.proofs.Common.{sym, ap, ◌≡◌, ◌+◌, ◌++◌, ◌∷◌, ◌∙◌, [], Some, slice_get, take}
+use Rattle.std.proofs.Common.{sym, ap, ◌≡◌, ◌+◌, ◌++◌, ◌∷◌, ◌∙◌, [], Some, take}
 use Rattle.std.specs.Prelude.{fold}
 use Rattle.std.specs.List.{flat_map}
 use Rattle.std.proofs.lemmas.List.{flat_map_more, take_more}

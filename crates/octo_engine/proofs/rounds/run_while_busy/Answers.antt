@@ -1,26 +1,23 @@
-use Rattle.std.proofs.Common.{◌∙◌, ◌+◌, sym}
+use Rattle.std.proofs.Common.{◌∙◌, sym}
 use Rattle.push_history.specs.Journal.{terms_of}
-use Rattle.octo_engine.specs.Parts.{block}
-use Rattle.octo_engine.proofs.Rounding.{parts_more, given_more, work_less, some_round, part_ran}
+use Rattle.octo_engine.proofs.Rounding.{after_block, busy_less, given_more, part_ran}
 use Rattle.octo_engine.proofs.rounds.run_while_busy.Goals as goal
 
 pub busy-smaller : goal.busy-smaller
 busy-smaller g c =
     let t = terms_of c.args.packets.now c.args.options.now in
     let was = c.busy.invariant in
-    let lawful = c.requires.lawful in
-    let now = parts_more g.K.Kind.rules g.K.Kind.stands t c.args.options.now c.args.packets.now c.requires.terms was.rounds c.busy.parts c.run_workers.new.parts was.workers c.run_workers.ensures.len c.run_workers.ensures.ran in
-    work_less g.K.Kind.rules g.K.Kind.stands t c.args.options.now c.args.packets.now c.requires.terms was.rounds c.busy.parts c.run_workers.new.parts lawful.some_batch
-    (some_round c.args.options.now lawful) was.workers now (sym c.any_busy.ensures ∙ c.busy-test.true)
+    busy_less g.K.Kind.rules g.K.Kind.stands t c.args.options.now c.args.packets.now c.requires.terms was.rounds c.busy.parts c.run_workers.new.parts c.requires.lawful was.workers c.run_workers.ensures.len c.run_workers.ensures.ran
+    (sym c.any_busy.ensures ∙ c.busy-test.true)
 
 pub busy-preserved : goal.busy-preserved
 busy-preserved g c =
     let t = terms_of c.args.packets.now c.args.options.now in
     let was = c.busy.invariant in
-    let now = parts_more g.K.Kind.rules g.K.Kind.stands t c.args.options.now c.args.packets.now c.requires.terms was.rounds c.busy.parts c.run_workers.new.parts was.workers c.run_workers.ensures.len c.run_workers.ensures.ran in
     let given = given_more g.K.Kind.rules g.K.Kind.stands t c.args.options.now c.args.packets.now c.requires.terms was.rounds c.busy.parts c.run_workers.new.parts was.workers c.run_workers.ensures.len c.run_workers.ensures.ran in
     let folded = c.in_ok-fold_block.ensures.folded t was.rounds c.requires.terms.runs given was.state_is was.seen in
-    record { rounds = was.rounds + block; workers = now; state_is = folded.0; seen = folded.1 }
+    after_block g.K.Kind.rules g.K.Kind.stands t c.args.options.now c.args.packets.now c.requires.terms c.busy.parts c.run_workers.new.parts c.busy.state c.fold_block.new.state c.busy.looks c.fold_block.new.looks was
+    c.run_workers.ensures.len c.run_workers.ensures.ran folded
 
 pub fold_block-requires-clause-ends : goal.fold_block-requires-clause-ends
 fold_block-requires-clause-ends g c κs within = λ w p at.

@@ -12,9 +12,9 @@ use Rattle.octo_text.proofs.runs.write_runs.Goals as goal
 
 pub loop-start-init : goal.loop-start-init
 loop-start-init g c =
-    let first = c.next_place-start.ensures in (
+    let first = c.next-start.ensures in (
       [],
-      ap runs_of (marked_clear c.next_place-start.result c.args.bits.now 0 c.next_place-start.result (omega arith) first.high first.before),
+      ap runs_of (marked_clear c.next-start.result c.args.bits.now 0 c.next-start.result (omega arith) first.high first.before),
       writes_none _ tt,
       c.len-len.ensures,
       first.high,
@@ -27,9 +27,9 @@ pub returns-in_err-write_run-clause-writes : goal.returns-in_err-write_run-claus
 returns-in_err-write_run-clause-writes g c =
     let bits = c.args.bits.now in
     let start = c.loop-start.start in
-    let end = c.next_place-end.result in
+    let end = c.run_end-end.result in
     let i = c.loop-start.invariant in
-    let n = c.next_place-end.ensures in
+    let n = c.run_end-end.ensures in
     let within : start < length bits = omega (arith, i.3, c.loop-start-test.true) in
     let past : start < end = past_set bits start end within (i.5 within) n.low n.found in
     let run : runs_of (marked_behind start bits) ≡ (start, end - 1) ∷ runs_of (marked_behind end bits) =
@@ -43,11 +43,11 @@ pub loop-start-preserved : goal.loop-start-preserved
 loop-start-preserved g c =
     let bits = c.args.bits.now in
     let start = c.loop-start.start in
-    let end = c.next_place-end.result in
-    let next = c.next_place-start-in-loop-start.result in
+    let end = c.run_end-end.result in
+    let next = c.next-start-in-loop-start.result in
     let i = c.loop-start.invariant in
-    let n = c.next_place-end.ensures in
-    let m = c.next_place-start-in-loop-start.ensures in
+    let n = c.run_end-end.ensures in
+    let m = c.next-start-in-loop-start.ensures in
     let within : start < length bits = omega (arith, i.3, c.loop-start-test.true) in
     let past : start < end = past_set bits start end within (i.5 within) n.low n.found in
     let run : runs_of (marked_behind start bits) ≡ (start, end - 1) ∷ runs_of (marked_behind next bits) =

@@ -22,7 +22,7 @@ pub returns-clause-answers : goal.returns-clause-answers
 returns-clause-answers g c =
     let s = c.in_ok-settled.settled in
     let sketch = ap (λ (o : Options). o.sketch) c.in_ok-options.ensures ∙ level_sketch c.args.options.now c.args.watch.now c.args.bits ∙ c.requires.options.sketch in
-    level_answers c.args.options.now c.args.watch.now c.args.bits c.args.packets.now c.in_ok-options.options c.as_slice.result.now s.answers.items c.in_ok-options.ensures
+    level_answers c.args.options.now c.args.watch.now c.args.bits c.args.packets.now c.in_ok-options.options c.as_slice.result.now s.lists.answers.items c.in_ok-options.ensures
     (c.as_slice.ensures ∙ c.in_ok-packets.ensures.items)
-    (answers_of_run c.as_slice.result.now c.in_ok-options.options s.refused.items s.pushes.items s.answers.items s.live.items s.missed sketch
+    (answers_of_run c.as_slice.result.now c.in_ok-options.options s.lists.refused.items s.lists.pushes.items s.lists.answers.items s.lists.live.items s.lists.missed sketch
     c.in_ok-settled.ensures.journal c.in_ok-settled.ensures.whole c.in_ok-settled.ensures.bracket)

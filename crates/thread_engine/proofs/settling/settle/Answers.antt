@@ -7,7 +7,7 @@ use Rattle.live_state.specs.Fold.{Fit, state_after}
 use Rattle.live_view.specs.Views.{WriterView}
 use Rattle.octo_engine.proofs.Beginning.{rules_are}
 use Rattle.thread_ends.specs.Ends.{both_sents, kept_in}
-use Rattle.thread_law.specs.Ran.{HasRan}
+use Rattle.thread_law.specs.Ran.{HasRunTo}
 use Rattle.thread_engine.specs.Left.{AreDrained}
 use Rattle.thread_engine.proofs.Ending as ending
 use Rattle.thread_engine.proofs.Leaving.{answers_len, layout_is, named_sents, readers_pair, taken_rest}
@@ -73,7 +73,7 @@ pub returns-clause-drained : goal.returns-clause-drained
 returns-clause-drained g c =
     let o = c.args.options.now in
     let h = c.requires.ended in
-    subst (λ (ps : List BothView). AreDrained o c.args.lanes.items ps c.conclude-settled.result.0.refused.items) (sym c.conclude-settled.ensures.passes) (record {
+    subst (λ (ps : List BothView). AreDrained o c.args.lanes.items ps c.conclude-settled.result.0.lists.refused.items) (sym c.conclude-settled.ensures.passes) (record {
       lanes_len = ending.lanes_len g.K.Kind.stands g.K.Kind.rules o c.args.packets.now c.args.keys.now.items c.args.lanes.items c.args.workers.items c.args.rest c.args.spare h;
       capacity = subst (λ (ls : List LaneView). All (λ l. l.capacity ≡ o.lane) ls) (sym h.lanes_are) h.begun.capacity;
       ends = c.publish_rest.ensures.ids;
@@ -98,7 +98,7 @@ returns-clause-ran g c =
     (c.copy_state.ensures.fold ∙ ap (λ (v : WriterView). state_after r v.layout v.published) same) c.gather_answers.ensures.answers c.gather_answers.ensures.before
     e.rooms.refused e.rooms.pushes e.rooms.live in
     let ran = c.conclude-settled.ensures.ran w.published whole in
-    subst (λ (v : WriterView). HasRan c.args.packets.now o (both_sents c.conclude-settled.result.1.items) v.published settled.refused.items settled.pushes.items settled.answers.items settled.live.items settled.missed)
+    subst (λ (v : WriterView). HasRunTo c.args.packets.now o (both_sents c.conclude-settled.result.1.items) v.published settled.lists)
     (sym (c.copy_state.ensures.same ∙ same))
-    (subst (λ (ps : List BothView). HasRan c.args.packets.now o (both_sents ps) w.published settled.refused.items settled.pushes.items settled.answers.items settled.live.items settled.missed)
+    (subst (λ (ps : List BothView). HasRunTo c.args.packets.now o (both_sents ps) w.published settled.lists)
     (sym c.conclude-settled.ensures.passes) ran)

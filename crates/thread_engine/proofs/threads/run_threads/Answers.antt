@@ -1,7 +1,7 @@
 use Rattle.std.proofs.Common.{List, refl, subst, sym}
 use Rattle.packet_key.specs.declared.key.FlowKey.{FlowKey}
 use Rattle.hash_rows.specs.declared.options.Mode.{Mode}
-use Rattle.push_history.specs.Journal.{journal_in}
+use Rattle.push_history.specs.Journal.{journal_of_lists}
 use Rattle.push_history.specs.LawfulJournal.{IsJournalIn}
 use Rattle.push_history.proofs.Fitting.{rules_lawful}
 use Rattle.octo_engine.proofs.Beginning.{few_amounts}
@@ -34,8 +34,8 @@ returns-clause-journal g c =
     let total = few_amounts packets c.in_ok-keys.ensures.amounts c.requires.packets in
     record {
       options = refl;
-      by_mode = subst (λ (m : Mode). IsJournalIn m packets o (journal_in o s.refused.items s.pushes.items s.answers.items s.live.items s.missed)) (sym c.requires.mode)
-          (threads_journal packets o _ _ s.refused.items s.pushes.items s.answers.items s.live.items s.missed c.requires.lawful total (rules_lawful o.sketch) c.in_ok-ran.ensures.ran);
+      by_mode = subst (λ (m : Mode). IsJournalIn m packets o (journal_of_lists o s.lists)) (sym c.requires.mode)
+          (threads_journal packets o _ _ s.lists.refused.items s.lists.pushes.items s.lists.answers.items s.lists.live.items s.lists.missed c.requires.lawful total (rules_lawful o.sketch) c.in_ok-ran.ensures.ran);
     }
 
 pub returns-clause-whole : goal.returns-clause-whole
