@@ -1,5 +1,5 @@
 -- The tests of an answer, from those of its parts.
-use Rattle.std.proofs.Common.{◌≡◌, ◌<◌, ◌≤◌, ◌-◌, ◌==◌, ℕ, ℤ, pos, List, [], ◌∷◌, ◌++◌, length, map, get_or, Bool, true, false, if◌then◌else◌, refl, sym, ap, ap₂, ◌∙◌, subst, arith, append_assoc, inl, inr}
+use Rattle.std.proofs.Common.{◌≡◌, ◌<◌, ◌≤◌, ◌-◌, ◌==◌, ℕ, ℤ, pos, List, [], ◌∷◌, ◌++◌, length, map, get_or, Bool, true, false, if◌then◌else◌, sym, ap, ap₂, ◌∙◌, subst, arith, append_assoc, inl, inr}
 use Rattle.std.specs.Prelude.{All, Some, None, Option, IfNone, sum, slice_get, is_some}
 use Rattle.std.specs.List.{range_with_len}
 use Rattle.std.specs.Ordering.{int_eq}
@@ -28,30 +28,31 @@ use Rattle.std.specs.Global.{Vec}
 use Rattle.told_table.specs.Tables.{lists_of}
 use Rattle.audit_law.specs.Firsts.{first_of}
 use Rattle.std.proofs.lemmas.Bool.{cases_lt, leb-true}
-use Rattle.audit_law.proofs.Failing.{first_of_both}
+use Rattle.audit_law.proofs.Failing.{first_alone, first_of_both}
 use Rattle.audit_law.proofs.Holding.{Hold, hold_back, hold_front, hold_tail, holds_each}
 use Rattle.answer_audit.proofs.Reaching.{zero_front}
-use Rattle.answer_audit.specs.Answered.{BeginsAt, CanBeJudged, front_tests, shown_test}
+use Rattle.octo_text.specs.Readable.{CanBeJudged}
+use Rattle.answer_audit.specs.Answered.{BeginsAt, front_tests, shown_test}
 
 -- what stands in an answer's place
-pub answer_is : (j : Journal) (k : ℕ) (a : Answer) → slice_get j.answers.items k ≡ Some a → answer_at (content_of j) k ≡ parts_of a
+pub answer_is : (j : Journal) (k : ℕ) (a : Answer) → slice_get j.lists.answers.items k ≡ Some a → answer_at (content_of j) k ≡ parts_of a
 unfolding content_of
 answer_is j k a is =
-    get_or-map parts_of j.answers.items k a no_answer (slice_get_within j.answers.items k a is) ∙ ap parts_of (get_or_from_slice_get j.answers.items k a a is)
+    get_or-map parts_of j.lists.answers.items k a no_answer (slice_get_within j.lists.answers.items k a is) ∙ ap parts_of (get_or_from_slice_get j.lists.answers.items k a a is)
 
-pub front_is : (j : Journal) (k : ℕ) (a : Answer) → slice_get j.answers.items k ≡ Some a → (answer_at (content_of j) k).front ≡ a.front.items
+pub front_is : (j : Journal) (k : ℕ) (a : Answer) → slice_get j.lists.answers.items k ≡ Some a → (answer_at (content_of j) k).front ≡ a.front.items
 unfolding parts_of
 front_is j k a is = ap (λ (p : AnswerParts). p.front) (answer_is j k a is)
 
-pub number_is : (j : Journal) (k : ℕ) (a : Answer) → slice_get j.answers.items k ≡ Some a → (answer_at (content_of j) k).number ≡ a.number
+pub number_is : (j : Journal) (k : ℕ) (a : Answer) → slice_get j.lists.answers.items k ≡ Some a → (answer_at (content_of j) k).number ≡ a.number
 unfolding parts_of
 number_is j k a is = ap (λ (p : AnswerParts). p.number) (answer_is j k a is)
 
-pub folded_is : (j : Journal) (k : ℕ) (a : Answer) → slice_get j.answers.items k ≡ Some a → (answer_at (content_of j) k).folded ≡ a.folded
+pub folded_is : (j : Journal) (k : ℕ) (a : Answer) → slice_get j.lists.answers.items k ≡ Some a → (answer_at (content_of j) k).folded ≡ a.folded
 unfolding parts_of
 folded_is j k a is = ap (λ (p : AnswerParts). p.folded) (answer_is j k a is)
 
-pub shown_is : (j : Journal) (k : ℕ) (a : Answer) → slice_get j.answers.items k ≡ Some a → (answer_at (content_of j) k).shown ≡ a.shown.items
+pub shown_is : (j : Journal) (k : ℕ) (a : Answer) → slice_get j.lists.answers.items k ≡ Some a → (answer_at (content_of j) k).shown ≡ a.shown.items
 unfolding parts_of
 shown_is j k a is = ap (λ (p : AnswerParts). p.shown) (answer_is j k a is)
 
@@ -59,14 +60,14 @@ pub judged_at : (o : Options) (answers : List Answer) (k : ℕ) (a : Answer) →
 judged_at o answers k a all is = subst (CanBeJudged o) (get_or_from_slice_get answers k a a is) (all k a (slice_get_within answers k a is))
 
 -- an answer's front beside the one before of its reader
-pub rising_first : (line : ℕ) (j : Journal) (k : ℕ) (a : Answer) → slice_get j.answers.items k ≡ Some a → (a.number == 0) ≡ true → None ≡ first_failing (rising_tests line (content_of j) k)
+pub rising_first : (line : ℕ) (j : Journal) (k : ℕ) (a : Answer) → slice_get j.lists.answers.items k ≡ Some a → (a.number == 0) ≡ true → None ≡ first_failing (rising_tests line (content_of j) k)
 unfolding rising_tests
 rising_first line j k a is first =
     let at : ((answer_at (content_of j) k).number == 0) ≡ true = ap (λ (n : ℕ). n == 0) (number_is j k a is) ∙ first in
     let later : List Test = map (rising_test line (answer_at (content_of j) (k - 1)).front (answer_at (content_of j) k).front) (range_with_len 0 (length (answer_at (content_of j) k).front)) in
     sym (ap (λ (b : Bool). first_failing (if b then [] else later)) at)
 
-pub rising_later : (line : ℕ) (j : Journal) (k : ℕ) (a b : Answer) → slice_get j.answers.items k ≡ Some a → slice_get j.answers.items (k - 1) ≡ Some b → (a.number == 0) ≡ false
+pub rising_later : (line : ℕ) (j : Journal) (k : ℕ) (a b : Answer) → slice_get j.lists.answers.items k ≡ Some a → slice_get j.lists.answers.items (k - 1) ≡ Some b → (a.number == 0) ≡ false
     → first_failing (map (rising_test line b.front.items a.front.items) (range_with_len 0 (length a.front.items))) ≡ first_failing (rising_tests line (content_of j) k)
 unfolding rising_tests
 rising_later line j k a b is before later =
@@ -110,10 +111,6 @@ estimates_are o messages line a r table same shape cells =
         ap (λ (t : List ℤ). r.estimate table.shape t (get_or (keys_of o) k zero_key)) cells
         ∙ ap₂ (λ (s : Rules) (x : Shape). s.estimate x (shown_cells s x messages a.front) (get_or (keys_of o) k zero_key)) same shape
 
-first_alone : (failure other : Option Failure) → is_some failure ≡ true → failure ≡ first_of failure other
-first_alone None other some = absurd (cc)
-first_alone (Some f) other some = refl
-
 -- the tests of a front, from those of its parts
 pub front_parts : (line : ℕ) (j : Told) (messages : List (List Push)) (i : ℕ) (folded within rising order : Option Failure)
     → folded ≡ first_failing (front_test line (answer_at j i) ∷ [])
@@ -154,7 +151,7 @@ module _ (line : ℕ) (j : Told) (messages : List (List Push)) (i : ℕ) (none :
       leb-true (place_in front w) (length (sent_by messages w))
       (holds_each (within_test line messages front) 0 (length messages) (hold_front withins (rising_tests line j i ++ orders) rest) w (omega arith) (omega (arith, lt)))
 
-  later_rises : ((answer_at j i).number == 0) ≡ false → length before ≡ length front → (w : ℕ) → place_in before w ≤ place_in front w
+  pub later_rises : ((answer_at j i).number == 0) ≡ false → length before ≡ length front → (w : ℕ) → place_in before w ≤ place_in front w
   unfolding rising_tests rising_test
   later_rises later len w =
       let all : List Test = map (rising_test line before front) (range_with_len 0 (length front)) in

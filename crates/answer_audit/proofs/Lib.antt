@@ -2,3 +2,4 @@ pub mod Judging
 pub mod Placed
 pub mod Reaching
 pub mod Beginning
+pub mod Ordered

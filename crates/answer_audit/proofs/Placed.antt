@@ -129,10 +129,10 @@ module _ (line : ℕ) (front : List ℕ) (j : Journal) where
   abbrev order_at : ℕ → Test
   order_at e = order_test line front (answer_at (content_of j) e).front
 
-  order_is : (e : ℕ) (a : Answer) (other : List ℕ) → slice_get j.answers.items e ≡ Some a → other ≡ a.front.items → order_at e ≡ order_test line front other
+  order_is : (e : ℕ) (a : Answer) (other : List ℕ) → slice_get j.lists.answers.items e ≡ Some a → other ≡ a.front.items → order_at e ≡ order_test line front other
   order_is e a other at is = ap (order_test line front) (front_is j e a at ∙ sym is)
 
-  pub order_fails : (n e : ℕ) (a : Answer) (other : List ℕ) (ordered : Bool) (failure : Failure) → slice_get j.answers.items e ≡ Some a → other ≡ a.front.items → e < n
+  pub order_fails : (n e : ℕ) (a : Answer) (other : List ℕ) (ordered : Bool) (failure : Failure) → slice_get j.lists.answers.items e ≡ Some a → other ≡ a.front.items → e < n
       → AllPass order_at e → ordered ≡ (is_no_further other front || is_no_further front other) → ordered ≡ false → failure ≡ (order_test line front other).failure
       → Some failure ≡ first_failing (map order_at (range_with_len 0 n))
   order_fails n e a other ordered failure at is lt before tested fails said =
@@ -140,7 +140,7 @@ module _ (line : ℕ) (front : List ℕ) (j : Journal) where
       ap (λ (f : Failure). Some f) (said ∙ sym (ap (λ (t : Test). t.failure) here))
       ∙ sym (fails_at order_at n e lt before (ap (λ (t : Test). t.holds) here ∙ order_holds line front other ∙ sym tested ∙ fails))
 
-  pub order_more : (e : ℕ) (a : Answer) (other : List ℕ) (ordered : Bool) → slice_get j.answers.items e ≡ Some a → other ≡ a.front.items
+  pub order_more : (e : ℕ) (a : Answer) (other : List ℕ) (ordered : Bool) → slice_get j.lists.answers.items e ≡ Some a → other ≡ a.front.items
       → AllPass order_at e → ordered ≡ (is_no_further other front || is_no_further front other) → ordered ≡ true → AllPass order_at (e + 1)
   order_more e a other ordered at is before tested holds =
       pass_more order_at e before (ap (λ (t : Test). t.holds) (order_is e a other at is) ∙ order_holds line front other ∙ sym tested ∙ holds)

@@ -1,28 +1,16 @@
--- Answers that can be judged.
-use Rattle.std.specs.Prelude.{◌≡◌, ◌≤◌, ◌⊎◌, ◌-◌, ◌==◌, ◌∷◌, ◌++◌, ℕ, ℤ, pos, List, All, false, length, map, sum, replicate, slice_index_or}
+-- The tests of an answer, part by part.
+use Rattle.std.specs.Prelude.{◌≡◌, ◌⊎◌, ◌-◌, ◌==◌, ◌∷◌, ◌++◌, ℕ, ℤ, pos, List, false, length, map, sum, replicate, slice_index_or}
 use Rattle.std.specs.List.{range_with_len}
 use Rattle.std.specs.Ordering.{int_eq}
 use Rattle.packet_key.specs.declared.key.FlowKey.{FlowKey}
-use Rattle.hash_rows.specs.declared.answer.Answer.{Answer}
-use Rattle.hash_rows.specs.declared.options.Options.{Options}
 use Rattle.hash_rows.specs.Rules.{Rules}
 use Rattle.hash_rows.specs.Tables.{TableView}
 use Rattle.hash_rows.specs.declared.shape.Push.{Push}
 use Rattle.push_history.specs.Journal.{Journal}
 use Rattle.push_history.specs.Share.{zero_key}
-use Rattle.octo_text.specs.Content.{IsAnswerFor}
 use Rattle.audit_law.specs.declared.failure.Value.TheVariants.{Number, Signed}
 use Rattle.audit_law.specs.Tests.{Test, test}
 use Rattle.audit_law.specs.AnswerTests.{answer_at, order_test, rising_tests, within_test}
-
--- no number of the front is above 2 ^ 27
-abbrev pub IsShortFront : List ℕ → Type 0
-IsShortFront front = All (λ n. n ≤ 134217728) front
-
--- the answer has a number for each worker and an estimate for each asked key
-pub record CanBeJudged (o : Options) (a : Answer) : Type 0 where
-  pub fits : IsAnswerFor o a
-  pub short : IsShortFront a.front.items
 
 -- the estimate of key k is what the table says of it
 abbrev pub shown_test : ℕ → Rules → TableView → List FlowKey → List ℤ → ℕ → Test
@@ -33,7 +21,8 @@ shown_test line r table keys shown k =
 
 -- the front from which the answer's is reached is that of no message, or that of its reader's answer before
 abbrev pub BeginsAt : Journal → ℕ → List ℕ → Type 0
-BeginsAt j i front = (front ≡ replicate (length front) 0) ⊎ ((((answer_at j i).number == 0) ≡ false) × (front ≡ (answer_at j (i - 1)).front))
+BeginsAt j i front = (front ≡ replicate (length front) 0)
+    ⊎ ((((answer_at j i).number == 0) ≡ false) × (front ≡ (answer_at j (i - 1)).front))
 
 -- the tests of an answer's front
 abbrev pub front_tests : ℕ → Journal → List (List Push) → ℕ → List Test

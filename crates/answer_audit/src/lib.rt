@@ -3,6 +3,7 @@
 
 mod answers;
 mod fronts;
+mod orders;
 mod reached;
 mod shown;
 

@@ -1,4 +1,4 @@
-ghost use Rattle.std.specs.Prelude.{◌≡◌, ◌≤◌, ◌<◌, [], ℕ, List, All, length, replicate, slice_set, IfOk, OnOk, OnErr, slice_index_or};
+ghost use Rattle.std.specs.Prelude.{◌≡◌, ◌≤◌, ◌<◌, ℕ, List, All, length, replicate, slice_set, IfOk, slice_index_or};
 ghost use Rattle.hash_rows.specs.Shapes.{IsShape};
 ghost use Rattle.hash_rows.specs.declared.shape.Push.{Push};
 ghost use Rattle.told_table.specs.Tables.{lists_of};
@@ -24,7 +24,8 @@ impl<K: Kind> Reached<K> {
         requires { IsShape shape }
         ensures shape { IfOk result (λ reached. reached.table.shape ≡ shape) }
         ensures front { IfOk result (λ reached. reached.front.items ≡ replicate workers 0) }
-        ensures none { (messages : List (List Push)) → IfOk result (λ reached. HasReached K.rules messages reached.front.items reached.table) }
+        ensures none { (messages : List (List Push))
+            → IfOk result (λ reached. HasReached K.rules messages reached.front.items reached.table) }
     {
         let table = Table::new(alloc, shape)?;
         let front = Listed::filled(alloc, workers, 0)?;

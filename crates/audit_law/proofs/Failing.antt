@@ -106,3 +106,8 @@ first_of_both (t ∷ ts) us = by t.holds (first_of_both ts us)
     by : (b : Bool) → first_failing (ts ++ us) ≡ first_of (first_failing ts) (first_failing us) → (if b then first_failing (ts ++ us) else Some t.failure) ≡ first_of (if b then first_failing ts else Some t.failure) (first_failing us)
     by true rest = rest
     by false rest = refl
+
+-- a first failure is the first of both
+pub first_alone : (failure other : Option Failure) → is_some failure ≡ true → failure ≡ first_of failure other
+first_alone None other some = absurd (cc)
+first_alone (Some f) other some = refl

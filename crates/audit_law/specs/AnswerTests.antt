@@ -13,6 +13,7 @@ use Rattle.audit_law.specs.declared.failure.Value.TheVariants.{Number, Signed}
 use Rattle.audit_law.specs.LineNumbers.{answer_line}
 use Rattle.audit_law.specs.Tests.{Test, test}
 
+-- an answer of which nothing was read
 abbrev pub no_answer : AnswerParts
 no_answer = record { reader = 0; number = 0; folded = 0; front = []; shown = [] }
 

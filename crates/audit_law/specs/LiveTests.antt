@@ -16,10 +16,12 @@ use Rattle.audit_law.specs.declared.failure.Value.TheVariants.{Number, Signed, K
 use Rattle.audit_law.specs.LineNumbers.{live_line, missed_line}
 use Rattle.audit_law.specs.Tests.{Test, test}
 
+-- whether the sketch is LogLog
 abbrev pub is_loglog : Sketch → Bool
 is_loglog LogLog = true
 is_loglog _ = false
 
+-- whether it is Count-Min
 abbrev pub is_count_min : Sketch → Bool
 is_count_min CountMin = true
 is_count_min _ = false
@@ -28,6 +30,7 @@ is_count_min _ = false
 abbrev pub key_at : List FlowKey → ℕ → FlowKey
 key_at keys i = slice_index_or keys i zero_key
 
+-- whether a worker sent a message
 abbrev pub some_sent : List Push → Bool
 some_sent sent = nat_lt 0 (length sent)
 
@@ -39,6 +42,7 @@ is_lone messages = count_by some_sent messages == 1
 unfoldable pub live_alone : Options → List (List Push) → List FlowKey
 live_alone o messages = live_keys (rules_in o) o.shape o.heavy o.least (all_of messages)
 
+-- and how many keys were missed
 unfoldable pub missed_alone : Options → List (List Push) → ℕ
 missed_alone o messages = missed_keys (rules_in o) o.shape o.heavy o.least (all_of messages)
 
@@ -52,7 +56,8 @@ is_sent_key messages key = is_among (map (λ m. m.key) (all_of messages)) key
 
 -- it isn't that of an earlier line
 unfoldable pub twice_test : Journal → ℕ → ℕ → Test
-twice_test j i e = test (live_line j i) (Key (key_at j.live i)) (Number (live_line j e)) (not (same_key (key_at j.live e) (key_at j.live i)))
+twice_test j i e = test (live_line j i) (Key (key_at j.live i)) (Number (live_line j e))
+    (not (same_key (key_at j.live e) (key_at j.live i)))
 
 -- there is room for it; with Count-Min its estimate on all messages reaches `least`; and where one worker alone has
 -- messages it is live at its place

@@ -27,6 +27,7 @@ given_by packets o j w = given_messages (rules_in o) w o.threshold (updates_by_o
 unfoldable pub all_given : List Packet → Options → Journal → List (List Push)
 all_given packets o j = map (given_by packets o j) (range_with_len 0 o.workers)
 
+-- whether a push that meets a full lane waits
 abbrev pub is_wait : Full → Bool
 is_wait Leave = false
 is_wait Wait = true
@@ -42,7 +43,8 @@ refused_tests o updates sent line k =
 
 -- those of each refused update of worker w
 unfoldable pub all_refused_tests : List Packet → Options → Journal → ℕ → List Test
-all_refused_tests packets o j w = flat_map (refused_tests o (updates_by_options packets o w) (given_by packets o j w) (refused_line j w)) (refused_by j w)
+all_refused_tests packets o j w = flat_map (refused_tests o (updates_by_options packets o w) (given_by packets o j w) (refused_line j w))
+    (refused_by j w)
 
 -- the pushes are as many as the refused updates determine; none is refused where a push waits; and each refused one
 -- may be

@@ -4,8 +4,8 @@ use Rattle.std.specs.Prelude.{◌↔◌, All, None, Option, Some}
 use Rattle.audit_law.specs.declared.failure.Failure.{Failure}
 use Rattle.audit_law.specs.Tests.{Test}
 use Rattle.journal_audit.specs.Verdicts.{verdict_of}
-use Rattle.journal_audit.specs.declared.verdict.Verdict.{Verdict}
-use Rattle.journal_audit.specs.declared.verdict.Verdict.TheVariants.{Lawful}
+use Rattle.rounds_audit.specs.declared.verdict.Verdict.{Verdict}
+use Rattle.rounds_audit.specs.declared.verdict.Verdict.TheVariants.{Lawful}
 use Rattle.std.specs.List.{flat_map, range_with_len}
 use Rattle.std.specs.Global.{Vec}
 use Rattle.std.proofs.lemmas.List.{length-map, take_all, get_or-map}
@@ -33,7 +33,7 @@ use Rattle.octo_text.specs.Content.{content_of}
 use Rattle.octo_text.specs.declared.journal.Journal.{Journal}
 use Rattle.told_table.specs.Tables.{AreSent, lists_of}
 use Rattle.live_audit.specs.Counted.{AreFew}
-use Rattle.answer_audit.specs.Answered.{CanBeJudged}
+use Rattle.octo_text.specs.Readable.{CanBeJudged, IsReadable}
 use Rattle.audit_law.specs.Forms.{HasForm, HasPlaces}
 use Rattle.audit_law.specs.Tests.{first_failing}
 use Rattle.audit_law.specs.WorkerTests.{all_given, all_worker_tests}
@@ -41,7 +41,6 @@ use Rattle.audit_law.specs.Judged.{tests_of}
 use Rattle.audit_law.specs.LineNumbers.{answer_line, live_line, worker_line}
 use Rattle.audit_law.proofs.JournalLaw.{lawful_where_none, none_where_lawful}
 use Rattle.audit_law.proofs.WorkerLaw.{all_given_length, workers_lawful}
-use Rattle.journal_audit.specs.Readable.{IsReadable}
 use Rattle.journal_audit.proofs.WorkerCases.{pushes_is, refused_rise}
 
 has_places : (o : Options) (answers : List Answer) → All (CanBeJudged o) answers → All (HasPlaces o) (map parts_of answers)
@@ -53,11 +52,11 @@ pub has_form : (j : Journal) → IsReadable j → HasForm j.options (content_of 
 unfolding content_of
 has_form j h = record {
   options = refl;
-  refused = length-map j.refused.items marked ∙ h.workers.refused;
+  refused = length-map j.lists.refused.items marked ∙ h.workers.refused;
   rising = λ w lt. refused_rise j w (omega (arith, lt, h.workers.refused));
   pushes = h.workers.pushes;
   places = h.places;
-  answers = has_places j.options j.answers.items h.answers;
+  answers = has_places j.options j.lists.answers.items h.answers;
 }
 
 abbrev places_from : ℕ → ℕ → ℕ → List (ℕ × ℕ)
@@ -76,13 +75,13 @@ places_long asks first (suc readers) =
 product_few : (a b : ℕ) → a ≤ 4 → b ≤ 1024 → a * b ≤ 4096
 product_few a b le le' = let most : a * b ≤ 4 * 1024 = mul-le a b 4 1024 le le' in omega (arith, most)
 
-pub answers_few : (j : Journal) → IsReadable j → length j.answers.items ≤ 4096
+pub answers_few : (j : Journal) → IsReadable j → length j.lists.answers.items ≤ 4096
 answers_few j h =
     let o = j.options in
-    let places : length (places_of (map parts_of j.answers.items)) ≡ length (places_from o.asks 0 o.readers) = ap (λ (ps : List (ℕ × ℕ)). length ps) h.places in
-    let parts = length-map (map parts_of j.answers.items) (λ (a : AnswerParts). (a.reader, a.number)) in
-    let long : length j.answers.items ≡ o.readers * o.asks =
-    sym (length-map j.answers.items parts_of) ∙ sym parts ∙ places ∙ places_long o.asks 0 o.readers in
+    let places : length (places_of (map parts_of j.lists.answers.items)) ≡ length (places_from o.asks 0 o.readers) = ap (λ (ps : List (ℕ × ℕ)). length ps) h.places in
+    let parts = length-map (map parts_of j.lists.answers.items) (λ (a : AnswerParts). (a.reader, a.number)) in
+    let long : length j.lists.answers.items ≡ o.readers * o.asks =
+    sym (length-map j.lists.answers.items parts_of) ∙ sym parts ∙ places ∙ places_long o.asks 0 o.readers in
     omega (arith, long, product_few o.readers o.asks h.lawful.readers h.lawful.asks)
 
 -- what lawful workers sent can be told
@@ -131,12 +130,12 @@ given_long packets o j lists are = sym (length-map lists (λ v. v.items)) ∙ ap
 pub first_answer : (j : Journal) (line : ℕ) → IsReadable j → line ≡ worker_line (content_of j) j.options.workers → line ≡ answer_line (content_of j) 0
 unfolding answer_line content_of
 first_answer j line h is =
-    let len : length (map marked j.refused.items) ≡ j.options.workers = length-map j.refused.items marked ∙ h.workers.refused in
-    is ∙ ap (worker_line (content_of j)) (sym len) ∙ (let more : worker_line (content_of j) (length (map marked j.refused.items)) ≡ worker_line (content_of j) (length (map marked j.refused.items)) + 0 = omega arith in more)
+    let len : length (map marked j.lists.refused.items) ≡ j.options.workers = length-map j.lists.refused.items marked ∙ h.workers.refused in
+    is ∙ ap (worker_line (content_of j)) (sym len) ∙ (let more : worker_line (content_of j) (length (map marked j.lists.refused.items)) ≡ worker_line (content_of j) (length (map marked j.lists.refused.items)) + 0 = omega arith in more)
 
-pub first_live : (j : Journal) (line : ℕ) → line ≡ answer_line (content_of j) 0 → line + length j.answers.items ≡ live_line (content_of j) 0
+pub first_live : (j : Journal) (line : ℕ) → line ≡ answer_line (content_of j) 0 → line + length j.lists.answers.items ≡ live_line (content_of j) 0
 unfolding live_line answer_line content_of
-first_live j line is = omega (arith, is, length-map j.answers.items parts_of)
+first_live j line is = omega (arith, is, length-map j.lists.answers.items parts_of)
 
 -- no test fails exactly where the journal is lawful
 pub tests_lawful : (packets : List Packet) (j : Journal) → IsReadable j → j.options.mode ≡ Threads

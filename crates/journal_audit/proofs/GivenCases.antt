@@ -30,7 +30,7 @@ updates_in : (packets : List Packet) (o : Options) (w : ℕ) (r : Rules) → r �
 unfolding updates_by_options
 updates_in packets o w r same share is = ap₂ (λ (s : Rules) (t : List ℕ). updates_of s o.shape packets t) same is
 
-module _ (packets : List Packet) (j : Journal) (w : ℕ) (bits : List Bool) (at : slice_get j.refused.items w ≡ Some bits) (r : Rules) (same : r ≡ rules_in j.options) where
+module _ (packets : List Packet) (j : Journal) (w : ℕ) (bits : List Bool) (at : slice_get j.lists.refused.items w ≡ Some bits) (r : Rules) (same : r ≡ rules_in j.options) where
   pub given_is : (messages : List Push) (share : List ℕ) → share ≡ share_of_worker j.options.share j.options.workers packets w
       → messages ≡ given_messages r w j.options.threshold (updates_of r j.options.shape packets share) (marked bits)
       → messages ≡ given_by packets j.options (content_of j) w

@@ -1,6 +1,6 @@
 -- The tests of a journal, from those of its parts.
-use Rattle.std.proofs.Common.{◌≡◌, ◌++◌, ℕ, List, length, true, refl, sym, ap, ap₂, ◌∙◌}
-use Rattle.std.specs.Prelude.{None, Option, Some, is_some}
+use Rattle.std.proofs.Common.{◌≡◌, ◌++◌, ℕ, List, length, true, sym, ap, ap₂, ◌∙◌}
+use Rattle.std.specs.Prelude.{None, Option, is_some}
 use Rattle.std.specs.List.{flat_map, range_with_len}
 use Rattle.hash_rows.specs.declared.options.Options.{Options}
 use Rattle.hash_rows.specs.declared.shape.Packet.{Packet}
@@ -17,11 +17,7 @@ use Rattle.audit_law.specs.WorkerTests.{all_given, all_worker_tests}
 use Rattle.audit_law.specs.AnswerTests.{answer_tests}
 use Rattle.audit_law.specs.LiveTests.{live_tests, missed_tests}
 use Rattle.audit_law.specs.Judged.{tests_of}
-use Rattle.audit_law.proofs.Failing.{first_of_both}
-
-alone : (failure other : Option Failure) → is_some failure ≡ true → failure ≡ first_of failure other
-alone None other some = absurd (cc)
-alone (Some f) other some = refl
+use Rattle.audit_law.proofs.Failing.{first_alone, first_of_both}
 
 module _ (packets : List Packet) (o : Options) (j : Journal) where
   abbrev messages : List (List Push)
@@ -40,13 +36,13 @@ module _ (packets : List Packet) (o : Options) (j : Journal) where
 
   pub worker_first : (failure : Option Failure) → failure ≡ first_failing (all_worker_tests packets o j) → is_some failure ≡ true → failure ≡ first_failing (tests_of packets o j)
   worker_first failure is some =
-      alone failure (first_of (first_failing of_answers) (first_failing of_live)) some
+      first_alone failure (first_of (first_failing of_answers) (first_failing of_live)) some
       ∙ ap (λ f. first_of f (first_of (first_failing of_answers) (first_failing of_live))) is ∙ sym parted
 
   pub answer_first : (failure : Option Failure) → first_failing (all_worker_tests packets o j) ≡ None → failure ≡ first_failing of_answers → is_some failure ≡ true
       → failure ≡ first_failing (tests_of packets o j)
   answer_first failure none is some =
-      alone failure (first_failing of_live) some
+      first_alone failure (first_failing of_live) some
       ∙ ap (λ f. first_of f (first_failing of_live)) is
       ∙ sym (parted ∙ ap (λ f. first_of f (first_of (first_failing of_answers) (first_failing of_live))) none)
 
@@ -58,16 +54,16 @@ module _ (packets : List Packet) (o : Options) (j : Journal) where
 
 -- the tests of the answers and of the live keys, of what the workers are given
 pub answers_same : (packets : List Packet) (j : Kept) (lists : List (List Push)) → lists ≡ all_given packets j.options (content_of j)
-    → first_failing (flat_map (answer_tests j.options (content_of j) lists) (range_with_len 0 (length j.answers.items)))
+    → first_failing (flat_map (answer_tests j.options (content_of j) lists) (range_with_len 0 (length j.lists.answers.items)))
     ≡ first_failing (flat_map (answer_tests j.options (content_of j) (all_given packets j.options (content_of j))) (range_with_len 0 (length (content_of j).answers)))
 unfolding content_of
 answers_same packets j lists are =
-    ap₂ (λ (ms : List (List Push)) (n : ℕ). first_failing (flat_map (answer_tests j.options (content_of j) ms) (range_with_len 0 n))) are (sym (length-map j.answers.items parts_of))
+    ap₂ (λ (ms : List (List Push)) (n : ℕ). first_failing (flat_map (answer_tests j.options (content_of j) ms) (range_with_len 0 n))) are (sym (length-map j.lists.answers.items parts_of))
 
 pub live_same : (packets : List Packet) (j : Kept) (lists : List (List Push)) → lists ≡ all_given packets j.options (content_of j)
-    → first_failing (flat_map (live_tests j.options (content_of j) lists) (range_with_len 0 (length j.live.items)) ++ missed_tests j.options (content_of j) lists)
+    → first_failing (flat_map (live_tests j.options (content_of j) lists) (range_with_len 0 (length j.lists.live.items)) ++ missed_tests j.options (content_of j) lists)
     ≡ first_failing (flat_map (live_tests j.options (content_of j) (all_given packets j.options (content_of j))) (range_with_len 0 (length (content_of j).live))
     ++ missed_tests j.options (content_of j) (all_given packets j.options (content_of j)))
 unfolding content_of
 live_same packets j lists are =
-    ap (λ (ms : List (List Push)). first_failing (flat_map (live_tests j.options (content_of j) ms) (range_with_len 0 (length j.live.items)) ++ missed_tests j.options (content_of j) ms)) are
+    ap (λ (ms : List (List Push)). first_failing (flat_map (live_tests j.options (content_of j) ms) (range_with_len 0 (length j.lists.live.items)) ++ missed_tests j.options (content_of j) ms)) are

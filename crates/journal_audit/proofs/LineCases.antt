@@ -10,16 +10,16 @@ use Rattle.octo_text.specs.Runs.{runs_of}
 use Rattle.octo_text.specs.declared.journal.Journal.{Journal}
 use Rattle.audit_law.specs.LineNumbers.{lines_of_worker, worker_line, refused_line}
 
-pub worker_line_is : (j : Journal) (w : ℕ) (rows : List (List Bool)) → rows ≡ take w j.refused.items
+pub worker_line_is : (j : Journal) (w : ℕ) (rows : List (List Bool)) → rows ≡ take w j.lists.refused.items
     → 3 + length j.options.watch.items + sum (map lines_of_worker (map marked rows)) ≡ worker_line (content_of j) w
 unfolding worker_line content_of with_journal
 worker_line_is j w rows is =
-    ap (λ (t : List (List ℕ)). 3 + length j.options.watch.items + sum (map lines_of_worker t)) (ap (map marked) is ∙ sym (take-map marked w j.refused.items))
+    ap (λ (t : List (List ℕ)). 3 + length j.options.watch.items + sum (map lines_of_worker t)) (ap (map marked) is ∙ sym (take-map marked w j.lists.refused.items))
 
-pub refused_line_is : (j : Journal) (w k line runs : ℕ) (bits : List Bool) → slice_get j.refused.items w ≡ Some bits → line ≡ worker_line (content_of j) w
+pub refused_line_is : (j : Journal) (w k line runs : ℕ) (bits : List Bool) → slice_get j.lists.refused.items w ≡ Some bits → line ≡ worker_line (content_of j) w
     → runs ≡ count_by (λ run. nat_le run.0 k) (runs_of (marked bits)) → line + runs ≡ refused_line (content_of j) w k
 unfolding refused_line content_of
 refused_line_is j w k line runs bits at is counted =
-    let here : get_or (map marked j.refused.items) w [] ≡ marked bits =
-    get_or-map marked j.refused.items w [] [] (slice_get_within j.refused.items w bits at) ∙ ap marked (get_or_from_slice_get j.refused.items w bits [] at) in
+    let here : get_or (map marked j.lists.refused.items) w [] ≡ marked bits =
+    get_or-map marked j.lists.refused.items w [] [] (slice_get_within j.lists.refused.items w bits at) ∙ ap marked (get_or_from_slice_get j.lists.refused.items w bits [] at) in
     ap₂ (λ (a b : ℕ). a + b) is (counted ∙ ap (λ (t : List ℕ). count_by (λ (run : ℕ × ℕ). nat_le run.0 k) (runs_of t)) (sym here))

@@ -1,5 +1,5 @@
 -- Which test of a worker's refused updates fails first.
-use Rattle.std.proofs.Common.{◌≡◌, ◌<◌, ◌≤◌, ℕ, suc, ◌+◌, ◌==◌, ◌||◌, List, [], ◌∷◌, ◌++◌, length, get_or, Bool, true, false, if◌then◌else◌, nat_lt, nat_le, refl, sym, ap, ◌∙◌, subst, arith, ◌⊎◌, inl, inr, true≢false}
+use Rattle.std.proofs.Common.{◌≡◌, ◌<◌, ◌≤◌, ℕ, suc, ◌+◌, ◌==◌, ◌||◌, List, [], ◌∷◌, ◌++◌, length, get_or, Bool, true, false, nat_lt, nat_le, refl, sym, ap, ◌∙◌, subst, arith, ◌⊎◌, inl, inr, true≢false}
 use Rattle.std.specs.Prelude.{All, Option, Some, None, MatchOption}
 use Rattle.std.specs.List.{flat_map}
 use Rattle.std.specs.List.Sorted.{IsStrictlyIncreasing}
@@ -19,32 +19,9 @@ use Rattle.audit_law.specs.declared.failure.Failure.{Failure}
 use Rattle.audit_law.specs.declared.failure.Value.TheVariants.{Number}
 use Rattle.audit_law.specs.Tests.{Test, test, first_failing}
 use Rattle.audit_law.specs.WorkerTests.{refused_tests}
+use Rattle.audit_law.proofs.Failing.{failing_front, failing_back, failing_head, failing_tail}
 use Rattle.audit_law.proofs.Holding.{Hold, hold_nil, hold_cons, hold_append}
-use Rattle.journal_audit.specs.Readable.{NonePast, IsFirstPast}
-
-pub failing_front : (ts us : List Test) (f : Failure) → first_failing ts ≡ Some f → first_failing (ts ++ us) ≡ Some f
-failing_front [] us f is = absurd (cc)
-failing_front (t ∷ ts) us f is = by t.holds is (failing_front ts us f)
-  where
-    by : (b : Bool) → (if b then first_failing ts else Some t.failure) ≡ Some f → (first_failing ts ≡ Some f → first_failing (ts ++ us) ≡ Some f)
-        → (if b then first_failing (ts ++ us) else Some t.failure) ≡ Some f
-    by true is rest = rest is
-    by false is rest = is
-
-pub failing_back : (ts us : List Test) → Hold ts → first_failing (ts ++ us) ≡ first_failing us
-failing_back [] us h = refl
-failing_back (t ∷ ts) us h = by t.holds h.none (λ rest. failing_back ts us (record { none = rest }))
-  where
-    by : (b : Bool) → (if b then first_failing ts else Some t.failure) ≡ None → (first_failing ts ≡ None → first_failing (ts ++ us) ≡ first_failing us)
-        → (if b then first_failing (ts ++ us) else Some t.failure) ≡ first_failing us
-    by true h rest = rest h
-    by false h rest = absurd (cc)
-
-pub failing_head : (t : Test) (ts : List Test) → t.holds ≡ false → first_failing (t ∷ ts) ≡ Some t.failure
-failing_head t ts is = ap (λ (b : Bool). if b then first_failing ts else Some t.failure) is
-
-pub failing_tail : (t : Test) (ts : List Test) → t.holds ≡ true → first_failing (t ∷ ts) ≡ first_failing ts
-failing_tail t ts is = ap (λ (b : Bool). if b then first_failing ts else Some t.failure) is
+use Rattle.journal_audit.specs.Past.{NonePast, IsFirstPast}
 
 rising_tail : (x : ℕ) (xs : List ℕ) → IsStrictlyIncreasing (x ∷ xs) → IsStrictlyIncreasing xs
 rising_tail x xs rising = λ k lt.

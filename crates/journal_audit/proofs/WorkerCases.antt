@@ -15,24 +15,24 @@ use Rattle.octo_text.specs.Content.{content_of}
 use Rattle.octo_text.proofs.RunLemmas.{length-marked}
 use Rattle.push_history.specs.Pushes.{is_refused}
 use Rattle.push_replay.proofs.Rows.{refused_bit}
-use Rattle.journal_audit.specs.Readable.{NonePast, IsFirstPast}
+use Rattle.journal_audit.specs.Past.{NonePast, IsFirstPast}
 use Rattle.octo_text.specs.declared.journal.Journal.{Journal}
 use Rattle.audit_law.specs.declared.failure.Value.TheVariants.{Number}
 use Rattle.audit_law.specs.LineNumbers.{worker_line}
 use Rattle.audit_law.specs.Tests.{Test, test, first_failing}
 use Rattle.audit_law.specs.WorkerTests.{given_by, refused_by, is_wait, all_refused_tests, worker_tests}
-use Rattle.journal_audit.proofs.Refusals.{failing_head, failing_tail}
+use Rattle.audit_law.proofs.Failing.{failing_head, failing_tail}
 use Rattle.journal_audit.proofs.Marking.{marked_rises}
 
 -- what the journal says of a worker
-pub refused_is : (j : Journal) (w : ℕ) (d : List Bool) → w < length j.refused.items → refused_by (content_of j) w ≡ marked (get_or j.refused.items w d)
+pub refused_is : (j : Journal) (w : ℕ) (d : List Bool) → w < length j.lists.refused.items → refused_by (content_of j) w ≡ marked (get_or j.lists.refused.items w d)
 unfolding content_of
-refused_is j w d lt = get_or-map marked j.refused.items w d [] lt
+refused_is j w d lt = get_or-map marked j.lists.refused.items w d [] lt
 
-pub refused_rise : (j : Journal) (w : ℕ) → w < length j.refused.items → IsStrictlyIncreasing (refused_by (content_of j) w)
-refused_rise j w lt = subst IsStrictlyIncreasing (sym (refused_is j w [] lt)) (marked_rises (get_or j.refused.items w []))
+pub refused_rise : (j : Journal) (w : ℕ) → w < length j.lists.refused.items → IsStrictlyIncreasing (refused_by (content_of j) w)
+refused_rise j w lt = subst IsStrictlyIncreasing (sym (refused_is j w [] lt)) (marked_rises (get_or j.lists.refused.items w []))
 
-pub pushes_is : (j : Journal) (w : ℕ) → get_or (content_of j).pushes w 0 ≡ get_or j.pushes.items w 0
+pub pushes_is : (j : Journal) (w : ℕ) → get_or (content_of j).pushes w 0 ≡ get_or j.lists.pushes.items w 0
 unfolding content_of
 pushes_is j w = refl
 
@@ -80,9 +80,9 @@ module _ (packets : List Packet) (o : Options) (j : Told) (w : ℕ) where
       ∙ failing_tail waits_test (all_refused_tests packets o j w) (waits_by o.full (length (refused_by j w)) ∙ eq-eqb (waiting_of (length (refused_by j w))) 0 (sym is ∙ none))
 
 -- refused updates behind those of the worker
-module _ (j : Journal) (w : ℕ) (bits : List Bool) (at : slice_get j.refused.items w ≡ Some bits) where
+module _ (j : Journal) (w : ℕ) (bits : List Bool) (at : slice_get j.lists.refused.items w ≡ Some bits) where
   pub refused_at : refused_by (content_of j) w ≡ marked bits
-  refused_at = refused_is j w [] (slice_get_within j.refused.items w bits at) ∙ ap marked (get_or_from_slice_get j.refused.items w bits [] at)
+  refused_at = refused_is j w [] (slice_get_within j.lists.refused.items w bits at) ∙ ap marked (get_or_from_slice_get j.lists.refused.items w bits [] at)
 
   bit_is : (k : ℕ) → is_refused k (refused_by (content_of j) w) ≡ get_or bits k false
   bit_is k = ap (is_refused k) refused_at ∙ sym (refused_bit bits k)

@@ -1,3 +1,2 @@
-pub mod Readable
-pub mod Words
+pub mod Past
 pub mod Verdicts

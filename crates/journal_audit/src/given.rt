@@ -4,7 +4,7 @@ ghost use Rattle.octo_text.specs.Content.{content_of};
 ghost use Rattle.shares.specs.Owners.{AreOwners};
 ghost use Rattle.audit_law.specs.Tests.{first_failing};
 ghost use Rattle.audit_law.specs.WorkerTests.{all_given, all_worker_tests, given_by, worker_tests};
-ghost use Rattle.journal_audit.specs.Readable.{HasWorkers, IsShort};
+ghost use Rattle.octo_text.specs.Readable.{HasWorkers, IsShort};
 
 use crate::workers::worker_failure;
 use audit_law::Failure;
@@ -87,7 +87,7 @@ fn given_worker<K: Kind>(
     let options = &journal.options;
     let positions = positions_of(alloc, owners, worker, packets, options)?;
     let updates = options.shape.rows * positions.len();
-    let refused = journal.refused.get(worker);
+    let refused = journal.lists.refused.get(worker);
     let replay = replay_worker::<K>(alloc, worker, packets, &positions, options, refused)?;
     let fault = replay.fault;
     let messages = replay.into_messages();

@@ -1,25 +1,9 @@
-ghost use Rattle.std.specs.Prelude.{◌≡◌, ◌<◌, ◌≤◌, ℕ, not, length, false, count_by, nat_le, cond, slice_index_or};
+ghost use Rattle.std.specs.Prelude.{◌≡◌, ◌≤◌, length, count_by, nat_le, cond};
 ghost use Rattle.hash_rows.specs.Marks.{marked};
 ghost use Rattle.octo_text.specs.Runs.{runs_of};
 
 use hash_rows::Bits;
-
-/// The first place from `start` on whose bit is set, or is clear, or else the number of bits.
-pub fn next_place(bits: &Bits, start: u32, set: bool) -> u32
-    requires { start ≤ length bits.now }
-    ensures low { start ≤ result }
-    ensures high { result ≤ length bits.now }
-    ensures before { (k : ℕ) → start ≤ k → k < result → slice_index_or bits.now k false ≡ not set }
-    ensures found { result < length bits.now → slice_index_or bits.now result false ≡ set }
-{
-    let len = bits.len();
-    for place in start..len {
-        if bits.get(place) == set {
-            return place;
-        }
-    }
-    len
-}
+use octo_text::run_end;
 
 /// How many maximal runs of set bits there are.
 pub fn count_runs(bits: &Bits) -> u32
@@ -28,11 +12,11 @@ pub fn count_runs(bits: &Bits) -> u32
 {
     let len = bits.len();
     let mut count = 0;
-    let mut start = next_place(bits, 0, true);
+    let mut start = bits.next(0);
     while start < len {
-        let end = next_place(bits, start, false);
+        let end = run_end(bits, start);
         count += 1;
-        start = next_place(bits, end, true);
+        start = bits.next(end);
     }
     count
 }
@@ -52,11 +36,11 @@ pub fn count_runs_until(bits: &Bits, last: u32) -> u32
 {
     let len = bits.len();
     let mut count = 0;
-    let mut start = next_place(bits, 0, true);
+    let mut start = bits.next(0);
     while start < len {
-        let end = next_place(bits, start, false);
+        let end = run_end(bits, start);
         count += one_until(start, last);
-        start = next_place(bits, end, true);
+        start = bits.next(end);
     }
     count
 }

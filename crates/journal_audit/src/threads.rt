@@ -4,13 +4,13 @@ ghost use Rattle.push_history.specs.LawfulJournal.{LawfulJournal};
 ghost use Rattle.octo_text.specs.Content.{content_of};
 ghost use Rattle.audit_law.specs.Judged.{tests_of};
 ghost use Rattle.audit_law.specs.Tests.{first_failing};
-ghost use Rattle.journal_audit.specs.Readable.{IsReadable};
+ghost use Rattle.octo_text.specs.Readable.{IsReadable};
 ghost use Rattle.journal_audit.specs.Verdicts.{verdict_of};
-ghost use Rattle.journal_audit.specs.declared.verdict.Verdict.TheVariants.{Lawful};
+ghost use Rattle.rounds_audit.specs.declared.verdict.Verdict.TheVariants.{Lawful};
 
 use crate::given::{Given, given_of};
 use crate::lines::line_of_worker;
-use crate::verdict::{Verdict, verdict_of};
+use crate::verdict::verdict_of;
 use answer_audit::answers_failure;
 use audit_law::Failure;
 use flow_base::NoMemory;
@@ -18,6 +18,7 @@ use hash_rows::{Kind, Packet};
 use live_audit::live_failure;
 use octo_engine::asked_keys;
 use octo_text::Journal;
+use rounds_audit::Verdict;
 use shares::amounts_fit;
 use std::alloc::Global;
 
@@ -44,7 +45,7 @@ fn threads_failure<K: Kind>(
     if failure.is_some() {
         return Ok(failure);
     }
-    let first = line + journal.answers.len();
+    let first = line + journal.lists.answers.len();
     live_failure::<K>(alloc, journal, &given.messages, first)
 }
 
@@ -60,7 +61,8 @@ pub fn audit_threads<K: Kind>(
     requires few { length packets.now ≤ 16777216 }
     requires threads { journal.now.options.mode ≡ Threads }
     ensures lawful { IfOk result (λ verdict. (verdict ≡ Lawful) ↔ LawfulJournal packets.now journal.now.options (content_of journal.now)) }
-    ensures differs { IfOk result (λ verdict. verdict ≡ verdict_of (first_failing (tests_of packets.now journal.now.options (content_of journal.now)))) }
+    ensures differs { IfOk result (λ verdict. verdict ≡ verdict_of
+        (first_failing (tests_of packets.now journal.now.options (content_of journal.now)))) }
 {
     let failure = threads_failure::<K>(alloc, packets, journal)?;
     Ok(verdict_of(failure))

@@ -7,10 +7,10 @@ ghost use Rattle.audit_law.specs.Tests.{first_failing};
 ghost use Rattle.audit_law.specs.WorkerTests.{all_refused_tests, given_by, is_wait, refused_by, worker_tests};
 ghost use Rattle.audit_law.specs.LineNumbers.{refused_line};
 ghost use Rattle.audit_law.specs.declared.failure.Value.{Value};
-ghost use Rattle.journal_audit.specs.Readable.{IsFirstPast, IsShort, NonePast};
+ghost use Rattle.octo_text.specs.Readable.{IsShort};
+ghost use Rattle.journal_audit.specs.Past.{IsFirstPast, NonePast};
 
 use crate::lines::{line_of_refused, line_of_worker};
-use crate::runs::next_place;
 use audit_law::{Failure, Value};
 use hash_rows::{Full, Push};
 use octo_text::Journal;
@@ -26,14 +26,14 @@ pub fn worker_failure(
     updates: u32,
 ) -> Option<Failure>
     requires short { IsShort journal.now }
-    requires worker { worker < length journal.now.refused.items }
-    requires pushes { worker < length journal.now.pushes.items }
+    requires worker { worker < length journal.now.lists.refused.items }
+    requires pushes { worker < length journal.now.lists.pushes.items }
     ensures { (packets : List Packet) → let o = journal.now.options in let j = content_of journal.now in
         sent.now ≡ given_by packets o j worker → updates ≡ length (updates_by_options packets o worker)
         → IsFirst (rules_in o) worker o.threshold o.lane (updates_by_options packets o worker) (refused_by j worker) fault
         → result ≡ first_failing (worker_tests packets o j worker) }
 {
-    let pushes = *journal.pushes.get(worker);
+    let pushes = *journal.lists.pushes.get(worker);
     let messages = sent.len() as u64;
     if pushes != messages {
         return Some(Failure {
@@ -42,7 +42,7 @@ pub fn worker_failure(
             lawful: Value::Number(messages),
         });
     }
-    let refused = journal.refused.get(worker).count();
+    let refused = journal.lists.refused.get(worker).count();
     let waiting = refused_in_wait(journal.options.full, refused);
     if waiting != 0 {
         return Some(Failure {
@@ -72,7 +72,7 @@ fn refused_failure(
     updates: u32,
 ) -> Option<Failure>
     requires short { IsShort journal.now }
-    requires worker { worker < length journal.now.refused.items }
+    requires worker { worker < length journal.now.lists.refused.items }
     ensures { (packets : List Packet) → let o = journal.now.options in let j = content_of journal.now in
         updates ≡ length (updates_by_options packets o worker)
         → IsFirst (rules_in o) worker o.threshold o.lane (updates_by_options packets o worker) (refused_by j worker) fault
@@ -87,7 +87,7 @@ fn refused_failure(
 // What is wrong with the first refused update that may not be one.
 fn fault_failure(journal: &Journal, worker: u32, fault: Fault) -> Failure
     requires short { IsShort journal.now }
-    requires worker { worker < length journal.now.refused.items }
+    requires worker { worker < length journal.now.lists.refused.items }
     ensures { (packets : List Packet) → let o = journal.now.options in let j = content_of journal.now in
         IsFirst (rules_in o) worker o.threshold o.lane (updates_by_options packets o worker) (refused_by j worker) (Some fault)
         → Some result ≡ first_failing (all_refused_tests packets o j worker) }
@@ -109,16 +109,16 @@ fn fault_failure(journal: &Journal, worker: u32, fault: Fault) -> Failure
 // The first refused update that is none of the worker's.
 fn past_failure(journal: &Journal, worker: u32, updates: u32) -> Option<Failure>
     requires short { IsShort journal.now }
-    requires worker { worker < length journal.now.refused.items }
+    requires worker { worker < length journal.now.lists.refused.items }
     ensures { let j = content_of journal.now in MatchOption result (NonePast (refused_by j worker) updates)
         (λ failure. (k : ℕ) × IsFirstPast (refused_by j worker) updates k
         × (failure ≡ record { line = refused_line j worker k; kept = Value.Number k; lawful = Value.Number updates })) }
 {
-    let refused = journal.refused.get(worker);
+    let refused = journal.lists.refused.get(worker);
     if updates > refused.len() {
         return None;
     }
-    let place = next_place(refused, updates, true);
+    let place = refused.next(updates);
     if place < refused.len() {
         Some(Failure {
             line: line_of_refused(journal, worker, place),

@@ -21,7 +21,7 @@ use Rattle.journal_whole.specs.Drafted.{draft_of, told_by, stage_of, IsAnswered,
 use Rattle.journal_whole.specs.Steps.{Reads}
 use Rattle.journal_whole.proofs.Rows.{all_more, clear_on, new_clear}
 
-pub with_keys : (r : Reading) (keys : Listed FlowKey) (k : FlowKey) (line : List ℕ) → r.place ≡ Lists → r.journal.pushes.items ≡ []
+pub with_keys : (r : Reading) (keys : Listed FlowKey) (k : FlowKey) (line : List ℕ) → r.place ≡ Lists → r.journal.lists.pushes.items ≡ []
     → IsKey k → length r.journal.options.watch.items < 16 → All (λ l. l ≢ k) r.journal.options.watch.items → r.journal.options.sketch ≢ LogLog
     → keys.items ≡ r.journal.options.watch.items ++ k ∷ [] → keys.room ≡ r.journal.options.watch.room → line ≡ line_of (Watched k)
     → Reads (draft_of r) (draft_of (record r { journal = record r.journal { options = record r.journal.options { watch = keys } } })) line
@@ -34,21 +34,21 @@ with_keys r keys k line at none key few new kind put room is = record {
 }
 
 pub with_worker : (r : Reading) (rows : Listed (List Bool)) (counts : Listed ℕ) (bits : List Bool) (w p n : ℕ) (line : List ℕ) → r.place ≡ Lists → r.due ≡ 0
-    → w ≡ length r.journal.pushes.items → w < r.journal.options.workers → p ≤ 2 ^ 27 → r.refused + n ≤ 2 ^ 27
-    → rows.items ≡ r.journal.refused.items ++ bits ∷ [] → marked bits ≡ [] → counts.items ≡ r.journal.pushes.items ++ p ∷ [] → line ≡ line_of (Worker w p n)
-    → Reads (draft_of r) (draft_of (record { journal = record r.journal { refused = rows; pushes = counts }; place = r.place; refused = r.refused + n; due = n; least = 0 })) line
+    → w ≡ length r.journal.lists.pushes.items → w < r.journal.options.workers → p ≤ 2 ^ 27 → r.refused + n ≤ 2 ^ 27
+    → rows.items ≡ r.journal.lists.refused.items ++ bits ∷ [] → marked bits ≡ [] → counts.items ≡ r.journal.lists.pushes.items ++ p ∷ [] → line ≡ line_of (Worker w p n)
+    → Reads (draft_of r) (draft_of (record { journal = record r.journal { lists = record r.journal.lists { refused = rows; pushes = counts } }; place = r.place; refused = r.refused + n; due = n; least = 0 })) line
 with_worker r rows counts bits w p n line at none next more few₁ few₂ put clear counted is = record {
   entry = Worker w p n;
   may = (ap stage_of at, none, next, more, few₁, few₂);
   is = is;
   read = ap₂ (λ (rs : List (List ℕ)) (ps : List ℕ). record { stage = stage_of r.place; told = record (told_by r.journal) { refused = rs; pushes = ps }; refused = r.refused + n; due = n; least = 0 })
-      (ap (λ (l : List ℕ). map marked r.journal.refused.items ++ l ∷ []) (sym clear) ∙ sym (ap (map marked) put ∙ map-append marked r.journal.refused.items (bits ∷ [])))
+      (ap (λ (l : List ℕ). map marked r.journal.lists.refused.items ++ l ∷ []) (sym clear) ∙ sym (ap (map marked) put ∙ map-append marked r.journal.lists.refused.items (bits ∷ [])))
       (sym counted);
 }
 
 pub with_run : (r : Reading) (rows : Listed (List Bool)) (w a b : ℕ) (line : List ℕ) → MayFollow (draft_of r) (Run w a b)
-    → map marked rows.items ≡ in_last (map marked r.journal.refused.items) (range_with_len a (b + 1 - a)) → line ≡ line_of (Run w a b)
-    → Reads (draft_of r) (draft_of (record { journal = record r.journal { refused = rows }; place = r.place; refused = r.refused; due = r.due - (b + 1 - a); least = b + 1 + 1 })) line
+    → map marked rows.items ≡ in_last (map marked r.journal.lists.refused.items) (range_with_len a (b + 1 - a)) → line ≡ line_of (Run w a b)
+    → Reads (draft_of r) (draft_of (record { journal = record r.journal { lists = record r.journal.lists { refused = rows } }; place = r.place; refused = r.refused; due = r.due - (b + 1 - a); least = b + 1 + 1 })) line
 with_run r rows w a b line may put is = record {
   entry = Run w a b;
   may = may;
@@ -113,11 +113,11 @@ unfolding parts_of
 front_small new a is small = subst (λ (p : AnswerParts). All (λ n. n ≤ 2 ^ 27) p.front) (sym is) small
 
 pub with_answer : (r : Reading) (answers : Listed Answer) (a : Answer) (place : ℕ) (line : List ℕ) → r.place ≡ Lists → r.due ≡ 0
-    → length r.journal.pushes.items ≡ r.journal.options.workers → place ≡ length r.journal.answers.items
-    → length r.journal.answers.items < r.journal.options.readers * r.journal.options.asks
+    → length r.journal.lists.pushes.items ≡ r.journal.options.workers → place ≡ length r.journal.lists.answers.items
+    → length r.journal.lists.answers.items < r.journal.options.readers * r.journal.options.asks
     → IsAnswerAt r.journal.options place (parts_of a)
-    → answers.items ≡ r.journal.answers.items ++ a ∷ [] → line ≡ line_of (Answered (parts_of a))
-    → Reads (draft_of r) (draft_of (record r { journal = record r.journal { answers = answers } })) line
+    → answers.items ≡ r.journal.lists.answers.items ++ a ∷ [] → line ≡ line_of (Answered (parts_of a))
+    → Reads (draft_of r) (draft_of (record r { journal = record r.journal { lists = record r.journal.lists { answers = answers } } })) line
 with_answer r answers a place line at none all first more next put is = record {
   entry = Answered (parts_of a);
   may = (
@@ -135,18 +135,18 @@ with_answer r answers a place line at none all first more next put is = record {
   );
   is = is;
   read = ap (λ (answered : List AnswerParts). record (draft_of r) { told = record (told_by r.journal) { answers = answered } })
-      (sym (ap (map parts_of) put ∙ map-append parts_of r.journal.answers.items (a ∷ [])));
+      (sym (ap (map parts_of) put ∙ map-append parts_of r.journal.lists.answers.items (a ∷ [])));
 }
   where
-    number : place ≡ length (map parts_of r.journal.answers.items)
-    number = first ∙ sym (length-map r.journal.answers.items parts_of)
+    number : place ≡ length (map parts_of r.journal.lists.answers.items)
+    number = first ∙ sym (length-map r.journal.lists.answers.items parts_of)
 
-    few : length (map parts_of r.journal.answers.items) < r.journal.options.readers * r.journal.options.asks
-    few = subst (λ (n : ℕ). n < r.journal.options.readers * r.journal.options.asks) (sym (length-map r.journal.answers.items parts_of)) more
+    few : length (map parts_of r.journal.lists.answers.items) < r.journal.options.readers * r.journal.options.asks
+    few = subst (λ (n : ℕ). n < r.journal.options.readers * r.journal.options.asks) (sym (length-map r.journal.lists.answers.items parts_of)) more
 
-pub with_live : (r : Reading) (keys : Listed FlowKey) (k : FlowKey) (line : List ℕ) → IsAnswered (draft_of r) → IsKey k → length r.journal.live.items < 1024
-    → keys.items ≡ r.journal.live.items ++ k ∷ [] → line ≡ line_of (Live k)
-    → Reads (draft_of r) (draft_of (record r { journal = record r.journal { live = keys } })) line
+pub with_live : (r : Reading) (keys : Listed FlowKey) (k : FlowKey) (line : List ℕ) → IsAnswered (draft_of r) → IsKey k → length r.journal.lists.live.items < 1024
+    → keys.items ≡ r.journal.lists.live.items ++ k ∷ [] → line ≡ line_of (Live k)
+    → Reads (draft_of r) (draft_of (record r { journal = record r.journal { lists = record r.journal.lists { live = keys } } })) line
 with_live r keys k line at key few put is = record {
   entry = Live k;
   may = (record { listing = at.0; workers = at.1; due = at.2 }, at.3, key, few);
@@ -155,7 +155,7 @@ with_live r keys k line at key few put is = record {
 }
 
 pub with_missed : (r : Reading) (n : ℕ) (line : List ℕ) → IsAnswered (draft_of r) → n < 2 ^ 64 → line ≡ line_of (Missed n)
-    → Reads (draft_of r) (draft_of (record r { journal = record r.journal { missed = n }; place = Tallied })) line
+    → Reads (draft_of r) (draft_of (record r { journal = record r.journal { lists = record r.journal.lists { missed = n } }; place = Tallied })) line
 with_missed r n line at few is = record {
   entry = Missed n;
   may = (record { listing = at.0; workers = at.1; due = at.2 }, at.3, few);
@@ -168,8 +168,8 @@ with_end r line at is = record { entry = End; may = ap stage_of at; is = is; rea
 
 -- the rooms once a worker is told of
 pub rooms_worker : (r : Reading) (rows : Listed (List Bool)) (counts : Listed ℕ) (bits : List Bool) (n refused due : ℕ) → HasRooms r
-    → rows.items ≡ r.journal.refused.items ++ bits ∷ [] → rows.room ≡ r.journal.refused.room → counts.room ≡ r.journal.pushes.room → n ≡ 2 ^ 27 → bits ≡ replicate n false
-    → HasRooms (record { journal = record r.journal { refused = rows; pushes = counts }; place = r.place; refused = refused; due = due; least = 0 })
+    → rows.items ≡ r.journal.lists.refused.items ++ bits ∷ [] → rows.room ≡ r.journal.lists.refused.room → counts.room ≡ r.journal.lists.pushes.room → n ≡ 2 ^ 27 → bits ≡ replicate n false
+    → HasRooms (record { journal = record r.journal { lists = record r.journal.lists { refused = rows; pushes = counts } }; place = r.place; refused = refused; due = due; least = 0 })
 rooms_worker r rows counts bits n refused due rooms put room₁ room₂ long is = record {
   watch = rooms.watch;
   refused = room₁ ∙ rooms.refused;
@@ -177,15 +177,15 @@ rooms_worker r rows counts bits n refused due rooms put room₁ room₂ long is 
   answers = rooms.answers;
   live = rooms.live;
   bits = subst (λ (rs : List (List Bool)). All (λ b. length b ≡ 2 ^ 27) rs) (sym put)
-      (all_more (λ b. length b ≡ 2 ^ 27) r.journal.refused.items bits rooms.bits (ap length is ∙ length-replicate n false ∙ long));
-  clear = new_clear r.journal.refused.items rows.items bits n put is;
+      (all_more (λ b. length b ≡ 2 ^ 27) r.journal.lists.refused.items bits rooms.bits (ap length is ∙ length-replicate n false ∙ long));
+  clear = new_clear r.journal.lists.refused.items rows.items bits n put is;
   upto = rooms.upto;
 }
 
 -- and once a run is
-pub rooms_run : (r : Reading) (rows : Listed (List Bool)) (end due : ℕ) → HasRooms r → rows.room ≡ r.journal.refused.room
+pub rooms_run : (r : Reading) (rows : Listed (List Bool)) (end due : ℕ) → HasRooms r → rows.room ≡ r.journal.lists.refused.room
     → All (λ b. length b ≡ 2 ^ 27) rows.items → IsClearFrom end rows.items
-    → HasRooms (record { journal = record r.journal { refused = rows }; place = r.place; refused = r.refused; due = due; least = end + 1 })
+    → HasRooms (record { journal = record r.journal { lists = record r.journal.lists { refused = rows } }; place = r.place; refused = r.refused; due = due; least = end + 1 })
 rooms_run r rows end due rooms room long clear = record {
   watch = rooms.watch;
   refused = room ∙ rooms.refused;

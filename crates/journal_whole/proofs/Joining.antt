@@ -1,10 +1,11 @@
 -- The parts of a journal, put together.
-use Rattle.std.proofs.Common.{◌≡◌, ◌∙◌, ◌/◌, ◌%◌, ℕ, List, [], ◌∷◌, ◌++◌, Option, refl, sym, ap, subst, arith, append_assoc, length, map, pos, true, inl, inr, Err}
+use Rattle.std.proofs.Common.{◌≡◌, ◌∙◌, ◌/◌, ◌%◌, ◌^◌, ℕ, List, [], ◌∷◌, ◌++◌, Option, refl, sym, ap, subst, arith, append_assoc, length, map, pos, true, inl, inr, Err}
 use Rattle.std.specs.Prelude.{All, IsErrOf}
 use Rattle.std.specs.List.{flat_map, range_with_len}
 use Rattle.std.proofs.lemmas.List.{append-nil, length-map}
 use Rattle.std.proofs.lemmas.List.Elements.{All-cons, All-head, All-tail}
 use Rattle.flow_base.specs.Flow.{behind}
+use Rattle.flow_base.specs.LinesRead.{BrokeOff}
 use Rattle.flow_base.proofs.FlowLemmas.{behind-append}
 use Rattle.hash_rows.specs.declared.answer.Answer.{Answer}
 use Rattle.hash_rows.specs.declared.options.Options.{Options}
@@ -18,7 +19,9 @@ use Rattle.hash_rows.specs.Marks.{marked}
 use Rattle.push_history.specs.Answers.{parts_of}
 use Rattle.push_history.specs.Journal.{with_journal}
 use Rattle.push_history.specs.LawfulJournal.{places_by, places_of}
-use Rattle.octo_text.specs.Content.{content_of, IsAnswerFor, IsComplete}
+use Rattle.octo_text.specs.Content.{content_of, IsComplete}
+use Rattle.octo_text.specs.Readable.{CanBeJudged, IsReadable}
+use Rattle.octo_text.specs.declared.journal.Journal.{Journal}
 use Rattle.journal_read.specs.Drafts.{Draft, Nothing, Titled, Listing, Counted, Ended}
 use Rattle.journal_read.specs.Entries.{Entry, line_of, Head, Terms}
 use Rattle.journal_read.specs.Reading.{Leads}
@@ -29,7 +32,7 @@ use Rattle.journal_whole.specs.declared.whole.JournalStop.{JournalStop}
 use Rattle.journal_whole.specs.declared.whole.JournalStop.TheVariants.{BadJournal}
 use Rattle.journal_whole.specs.declared.reading.Reading.{Reading}
 use Rattle.journal_whole.specs.Drafted.{begun, draft_of, told_by, stage_of, HasLengths, IsProper}
-use Rattle.journal_whole.specs.Taken.{TakesBadLine, TakesEntries, TakesJournal, TakesOther, TakesUpTo, IsNoTerms}
+use Rattle.journal_whole.specs.Taken.{BreaksFrom, TakesBadLine, TakesBreak, TakesEntries, TakesJournal, TakesOther, TakesUpTo, IsNoTerms}
 use Rattle.journal_whole.proofs.Places.{all_places}
 use Rattle.journal_whole.proofs.Judging.{not_both, head_alone, terms_alone}
 
@@ -115,6 +118,43 @@ bad_terms old mid new line number head other = record {
   };
 }
 
+-- where the bytes break off in the first line, or in that of the options
+pub break_head : (old new : Option (List ℕ)) → BrokeOff old new → TakesBreak old new
+break_head old new broke = record {
+  bytes = broke.given;
+  taken = broke.taken;
+  breaks = record {
+    before = fresh some_options;
+    fresh = (refl, refl, refl, refl, refl, refl, refl, refl);
+    entries = [];
+    after = fresh some_options;
+    lead = refl;
+    going = λ at. not_both Nothing Nothing Ended refl at (omega arith);
+    stands = broke.given;
+    parts = refl;
+    unended = broke.unended;
+    short = broke.short;
+  };
+}
+
+pub break_terms : (old mid new : Option (List ℕ)) → old ≡ behind (line_of Head) mid → BrokeOff mid new → TakesBreak old new
+break_terms old mid new head broke = record {
+  bytes = (line_of Head ++ []) ++ broke.given;
+  taken = chain old mid new (line_of Head ++ []) broke.given (head ∙ ap (λ (t : List ℕ). behind t mid) (sym (append-nil (line_of Head)))) broke.taken;
+  breaks = record {
+    before = fresh some_options;
+    fresh = (refl, refl, refl, refl, refl, refl, refl, refl);
+    entries = Head ∷ [];
+    after = record (fresh some_options) { stage = Titled };
+    lead = (refl, refl);
+    going = λ at. not_both Titled Titled Ended refl at (omega arith);
+    stands = broke.given;
+    parts = refl;
+    unended = broke.unended;
+    short = broke.short;
+  };
+}
+
 -- the opening, and the lines of entries behind it
 opened : (o : Options) (es : List Entry) (old mid new : Option (List ℕ)) → old ≡ behind (line_of Head ++ line_of (Terms o)) mid → mid ≡ behind (flat_map line_of es) new
     → old ≡ behind (flat_map line_of (Head ∷ Terms o ∷ es)) new
@@ -143,6 +183,25 @@ bad_lists o d old mid new line start law told head up = record {
   };
 }
 
+pub break_lists : (o : Options) (d : Draft) (old mid new : Option (List ℕ)) → d ≡ begun o → IsLawful o → told_options o ≡ o
+    → old ≡ behind (line_of Head ++ line_of (Terms o)) mid → BreaksFrom d mid new → TakesBreak old new
+break_lists o d old mid new start law told head off = record {
+  bytes = flat_map line_of (Head ∷ Terms o ∷ off.front.entries) ++ off.broke.given;
+  taken = chain old off.middle new (flat_map line_of (Head ∷ Terms o ∷ off.front.entries)) off.broke.given (opened o off.front.entries old mid off.middle head off.front.taken) off.broke.taken;
+  breaks = record {
+    before = fresh o;
+    fresh = (refl, refl, refl, refl, refl, refl, refl, refl);
+    entries = Head ∷ Terms o ∷ off.front.entries;
+    after = off.after;
+    lead = (refl, ((refl, law, told), subst (λ (x : Draft). Leads x off.front.entries off.after) start off.front.lead));
+    going = off.going;
+    stands = off.broke.given;
+    parts = refl;
+    unended = off.broke.unended;
+    short = off.broke.short;
+  };
+}
+
 told_is : (r : Reading) → told_by r.journal ≡ content_of r.journal
 unfolding content_of with_journal
 told_is r = refl
@@ -165,15 +224,15 @@ whole_journal o d r old mid new start law told head at took = record {
 }
 
 -- what the lists tell is complete
-answer_for : (o : Options) (a : Answer) → HasLengths (record o { journal = true }) (parts_of a) → IsAnswerFor o a
+judged_for : (o : Options) (a : Answer) → HasLengths (record o { journal = true }) (parts_of a) → CanBeJudged o a
 unfolding parts_of
-answer_for o a fits = record { front = fits.front; shown = fits.shown }
+judged_for o a fits = record { fits = record { front = fits.front; shown = fits.shown }; short = fits.small }
 
-answers_for : (o : Options) (answers : List Answer) → All (HasLengths (record o { journal = true })) (map parts_of answers) → All (IsAnswerFor o) answers
-answers_for o [] all = λ k d lt. absurd (omega (arith, lt))
-answers_for o (a ∷ rest) all =
-    All-cons (IsAnswerFor o) a rest (answer_for o a (All-head (HasLengths (record o { journal = true })) (parts_of a) (map parts_of rest) all))
-    (answers_for o rest (All-tail (HasLengths (record o { journal = true })) (parts_of a) (map parts_of rest) all))
+judged_all : (o : Options) (answers : List Answer) → All (HasLengths (record o { journal = true })) (map parts_of answers) → All (CanBeJudged o) answers
+judged_all o [] all = λ k d lt. absurd (omega (arith, lt))
+judged_all o (a ∷ rest) all =
+    All-cons (CanBeJudged o) a rest (judged_for o a (All-head (HasLengths (record o { journal = true })) (parts_of a) (map parts_of rest) all))
+    (judged_all o rest (All-tail (HasLengths (record o { journal = true })) (parts_of a) (map parts_of rest) all))
 
 lawful_for : (o : Options) → IsLawful (record o { journal = true }) → IsLawful o
 lawful_for o law = record {
@@ -199,31 +258,58 @@ lawful_for o law = record {
   suits = law.suits;
 }
 
-pub complete_journal : (r : Reading) → IsProper (draft_of r) → r.place ≡ Complete → IsComplete r.journal
-complete_journal r proper at = record {
-  lawful = lawful_for r.journal.options proper.lawful;
-  refused_len = sym (length-map r.journal.refused.items marked) ∙ proper.refused_len ∙ all;
-  pushes_len = all;
-  answers_fit = answers_for r.journal.options r.journal.answers.items proper.answers_fit;
-}
-  where
-    all : length r.journal.pushes.items ≡ r.journal.options.workers
-    all = elim proper.staged [ inl a ↦ absurd (not_both (stage_of r.place) Listing Ended a (ap stage_of at) (omega arith)) | inr b ↦ b.0 ]
+-- it is the one of a whole journal
+module _ (r : Reading) (proper : IsProper (draft_of r)) (at : r.place ≡ Complete) where
+  abbrev j : Journal
+  j = r.journal
 
--- and the answers stand in order
-pub places_journal : (r : Reading) → IsProper (draft_of r) → r.place ≡ Complete
-    → places_of (map parts_of r.journal.answers.items) ≡ places_by r.journal.options.readers r.journal.options.asks
-places_journal r proper at = elim proper.staged [
-  | inl a ↦ absurd (not_both (stage_of r.place) Listing Ended a (ap stage_of at) (omega arith))
-  | inr b ↦ proper.places ∙ ap (λ (n : ℕ). map (λ place. (place / r.journal.options.asks, place % r.journal.options.asks)) (range_with_len 0 n)) b.1
-      ∙ all_places r.journal.options.readers r.journal.options.asks
-]
+  pushes_all : length j.lists.pushes.items ≡ j.options.workers
+  pushes_all = elim proper.staged [ inl a ↦ absurd (not_both (stage_of r.place) Listing Ended a (ap stage_of at) (omega arith)) | inr b ↦ b.0 ]
 
--- and proper at the start
+  refused_all : length j.lists.refused.items ≡ j.options.workers
+  refused_all = sym (length-map j.lists.refused.items marked) ∙ proper.refused_len ∙ pushes_all
+
+  judged : All (CanBeJudged j.options) j.lists.answers.items
+  judged = judged_all j.options j.lists.answers.items proper.answers_fit
+
+  pub complete_journal : IsComplete j
+  complete_journal = record {
+    lawful = lawful_for j.options proper.lawful;
+    refused_len = refused_all;
+    pushes_len = pushes_all;
+    answers_fit = λ k d lt. (judged k d lt).fits;
+  }
+
+  -- the answers stand in order
+  pub places_journal : places_of (map parts_of j.lists.answers.items) ≡ places_by j.options.readers j.options.asks
+  places_journal = elim proper.staged [
+    | inl a ↦ absurd (not_both (stage_of r.place) Listing Ended a (ap stage_of at) (omega arith))
+    | inr b ↦ proper.places ∙ ap (λ (n : ℕ). map (λ place. (place / j.options.asks, place % j.options.asks)) (range_with_len 0 n)) b.1
+        ∙ all_places j.options.readers j.options.asks
+  ]
+
+  -- and it can be judged
+  pub readable_journal : All (λ bits. length bits ≡ 2 ^ 27) j.lists.refused.items → IsReadable j
+  readable_journal bits = record {
+    lawful = lawful_for j.options proper.lawful;
+    short = record {
+      watched = proper.lawful.watch;
+      workers = omega (arith, refused_all, proper.lawful.workers);
+      refused = λ k d lt. omega (arith, bits k d lt);
+    };
+    workers = record { refused = refused_all; pushes = pushes_all };
+    pushes = λ k d lt. omega (arith, proper.sent k d lt);
+    places = places_journal;
+    answers = judged;
+    live = proper.live;
+  }
+
+-- what is read is proper at the start
 pub begun_proper : (o : Options) → IsLawful o → IsProper (begun o)
 begun_proper o law = record {
   lawful = law;
   pushes = omega arith;
+  sent = λ k d lt. absurd (omega (arith, lt));
   refused_len = refl;
   refused = omega arith;
   due = omega arith;

@@ -14,3 +14,4 @@ pub mod OneJournal
 pub mod LineEnds
 pub mod WordEnds
 pub mod NoBadLine
+pub mod BrokenOff

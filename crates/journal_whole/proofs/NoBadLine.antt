@@ -28,15 +28,15 @@ use Rattle.journal_whole.proofs.Weights.{product_most}
 use Rattle.journal_whole.proofs.WordEnds.{watched_end, live_end, options_end}
 
 -- the options that are read are lawful, and few workers are told of
-record IsSound (d : Draft) : Type 0 where
-  lawful : 1 < rank d.stage → IsLawful d.told.options
-  pushes : length d.told.pushes ≤ 16
+pub record IsSound (d : Draft) : Type 0 where
+  pub lawful : 1 < rank d.stage → IsLawful d.told.options
+  pub pushes : length d.told.pushes ≤ 16
 
 -- once the lists are read
 law_at : (d : Draft) → IsSound d → d.stage ≡ Listing → IsLawful d.told.options
 law_at d sound at = sound.lawful (omega (arith, ap rank at))
 
-sound_on : (d : Draft) (e : Entry) → MayFollow d e → IsSound d → IsSound (read_on d e)
+pub sound_on : (d : Draft) (e : Entry) → MayFollow d e → IsSound d → IsSound (read_on d e)
 sound_on d Head may sound = record { lawful = λ late. absurd (omega (arith, late)); pushes = sound.pushes }
 sound_on d (Terms o) may sound = record { lawful = λ late. may.1; pushes = sound.pushes }
 sound_on d (Watched k) may sound = record { lawful = λ late. lawful_more d.told.options k (law_at d sound may.0) may.3 may.4 may.5; pushes = sound.pushes }
@@ -55,7 +55,7 @@ few_asked CountSketch watched few = few
 few_asked LogLog watched few = omega arith
 
 -- the line of each entry ends with its one line feed
-end_of : (d : Draft) (e : Entry) → IsSound d → MayFollow d e → HasEnd (line_of e)
+pub end_of : (d : Draft) (e : Entry) → IsSound d → MayFollow d e → HasEnd (line_of e)
 end_of d Head sound may = head_end
 end_of d (Terms o) sound may = options_end o may.1
 end_of d (Watched k) sound may = watched_end k may.2
@@ -80,14 +80,14 @@ end_of d (Missed n) sound may = missed_end n may.2
 end_of d End sound may = last_end
 
 -- a line feed within bytes that have none
-feed_within : (xs ys x y : List ℕ) → HasNoFeed ys → length xs < length ys → xs ++ (10 ∷ x) ≡ ys ++ y → ⊥
+pub feed_within : (xs ys x y : List ℕ) → HasNoFeed ys → length xs < length ys → xs ++ (10 ∷ x) ≡ ys ++ y → ⊥
 feed_within [] [] x y clear lt is = omega (arith, lt)
 feed_within [] (c ∷ ys) x y clear lt is = All-head (λ b. b ≢ 10) c ys clear (cc is)
 feed_within (b ∷ xs) [] x y clear lt is = omega (arith, lt)
 feed_within (b ∷ xs) (c ∷ ys) x y clear lt is = feed_within xs ys x y (All-tail (λ b. b ≢ 10) c ys clear) (omega (arith, lt)) (cc is)
 
 -- a line that stands at the front is the one that is read there
-read_there : (line stands rest y : List ℕ) (end : LineEnd) → HasEnd line → IsLine (Some y) stands end → line ++ rest ≡ stands ++ y → stands ≡ line
+pub read_there : (line stands rest y : List ℕ) (end : LineEnd) → HasEnd line → IsLine (Some y) stands end → line ++ rest ≡ stands ++ y → stands ≡ line
 read_there line stands rest y Whole has at is =
     let cut = feed_cut has.body at.0 rest y has.piece.clear at.2
     (sym (append_assoc has.body (10 ∷ []) rest) ∙ ap (λ (t : List ℕ). t ++ rest) (sym has.is) ∙ is ∙ ap (λ (t : List ℕ). t ++ y) at.1 ∙ append_assoc at.0 (10 ∷ []) y) in
@@ -123,7 +123,7 @@ not_both_read d o m (e ∷ es) (f ∷ fs) a b x y stands end settled sound lead�
     not_both_read (read_on d e) (options_on o e) (missed_on m e) es fs a b x y stands end (settled_on d o m e lead₁.0 settled) (sound_on d e lead₁.0 sound)
     lead₁.1 (leads_beside d o m e f fs b first.0 lead₂.1) ended going at none first.1
 
-fresh_sound : (d : Draft) → IsFresh d → IsSound d
+pub fresh_sound : (d : Draft) → IsFresh d → IsSound d
 fresh_sound d fresh = record { lawful = λ late. absurd (omega (arith, late, ap rank fresh.0)); pushes = omega (arith, ap length fresh.2) }
 
 -- what is left behind a journal and behind a bad line, of the same bytes

@@ -1,5 +1,5 @@
 -- What lines keep.
-use Rattle.std.proofs.Common.{◌≡◌, ◌≢◌, ◌∙◌, ℕ, suc, ◌+◌, ◌-◌, ◌<◌, List, [], ◌∷◌, ◌++◌, refl, sym, ap, subst, arith, length, length-append, inl, inr}
+use Rattle.std.proofs.Common.{◌≡◌, ◌≢◌, ◌∙◌, ℕ, suc, ◌+◌, ◌-◌, ◌<◌, ◌≤◌, ◌^◌, List, [], ◌∷◌, ◌++◌, refl, sym, ap, subst, arith, length, length-append, inl, inr}
 use Rattle.std.specs.Prelude.{All, AllPairs}
 use Rattle.std.proofs.lemmas.List.Kept.{AllPairs-cons}
 use Rattle.std.specs.List.{range_with_len}
@@ -72,6 +72,7 @@ proper_on d (Terms o) p may = absurd (not_early d Titled p may.0 (omega arith))
 proper_on d (Watched k) p may = record {
   lawful = lawful_more d.told.options k p.lawful may.3 may.4 may.5;
   pushes = p.pushes;
+  sent = p.sent;
   refused_len = p.refused_len;
   refused = p.refused;
   due = p.due;
@@ -86,6 +87,7 @@ proper_on d (Watched k) p may = record {
 proper_on d (Worker w n r) p may = record {
   lawful = p.lawful;
   pushes = omega (arith, may.2, may.3, length-append d.told.pushes (n ∷ []));
+  sent = all_more (λ m. m ≤ 2 ^ 27) d.told.pushes n p.sent may.4;
   refused_len = omega (arith, p.refused_len, length-append d.told.pushes (n ∷ []), length-append d.told.refused ([] ∷ []));
   refused = may.5;
   due = omega arith;
@@ -100,6 +102,7 @@ proper_on d (Worker w n r) p may = record {
 proper_on d (Run w a b) p may = record {
   lawful = p.lawful;
   pushes = p.pushes;
+  sent = p.sent;
   refused_len = length_in_last d.told.refused (range_with_len a (b + 1 - a)) ∙ p.refused_len;
   refused = p.refused;
   due = omega (arith, p.due);
@@ -114,13 +117,14 @@ proper_on d (Run w a b) p may = record {
 proper_on d (Answered a) p may = record {
   lawful = p.lawful;
   pushes = p.pushes;
+  sent = p.sent;
   refused_len = p.refused_len;
   refused = p.refused;
   due = p.due;
   least = p.least;
   early = λ none. absurd (omega (arith, may.0.workers, p.lawful.some_workers, ap length none));
   answers = omega (arith, may.1, length-append d.told.answers (a ∷ []));
-  answers_fit = all_more (HasLengths d.told.options) d.told.answers a p.answers_fit (record { front = may.2.front_len; shown = may.2.shown_len });
+  answers_fit = all_more (HasLengths d.told.options) d.told.answers a p.answers_fit (record { front = may.2.front_len; small = may.2.front; shown = may.2.shown_len });
   places = order_more d.told.options.asks d.told.answers a p.places may.2.reader may.2.number;
   live = p.live;
   staged = inl may.0.listing;
@@ -128,6 +132,7 @@ proper_on d (Answered a) p may = record {
 proper_on d (Live k) p may = record {
   lawful = p.lawful;
   pushes = p.pushes;
+  sent = p.sent;
   refused_len = p.refused_len;
   refused = p.refused;
   due = p.due;
@@ -142,6 +147,7 @@ proper_on d (Live k) p may = record {
 proper_on d (Missed n) p may = record {
   lawful = p.lawful;
   pushes = p.pushes;
+  sent = p.sent;
   refused_len = p.refused_len;
   refused = p.refused;
   due = p.due;
@@ -156,6 +162,7 @@ proper_on d (Missed n) p may = record {
 proper_on d End p may = record {
   lawful = p.lawful;
   pushes = p.pushes;
+  sent = p.sent;
   refused_len = p.refused_len;
   refused = p.refused;
   due = p.due;

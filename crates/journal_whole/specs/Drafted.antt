@@ -24,11 +24,11 @@ stage_of Complete = Ended
 abbrev pub told_by : Journal → Content
 told_by j = record {
   options = record j.options { journal = true };
-  refused = map marked j.refused.items;
-  pushes = j.pushes.items;
-  answers = map parts_of j.answers.items;
-  live = j.live.items;
-  missed = j.missed;
+  refused = map marked j.lists.refused.items;
+  pushes = j.lists.pushes.items;
+  answers = map parts_of j.lists.answers.items;
+  live = j.lists.live.items;
+  missed = j.lists.missed;
 }
 
 -- what was read so far
@@ -47,18 +47,19 @@ begun o = record {
 
 -- the last list is clear from this place on
 abbrev pub IsClearFrom : ℕ → List (List Bool) → Type 0
-IsClearFrom place rows = (front : List (List Bool)) (last : List Bool) → rows ≡ front ++ last ∷ [] → All (λ bit. bit ≡ false) (drop place last)
+IsClearFrom place rows = (front : List (List Bool)) (last : List Bool) → rows ≡ front ++ last ∷ []
+    → All (λ bit. bit ≡ false) (drop place last)
 
 -- the lists have room for all that may come, and hold nothing else
 pub record HasRooms (r : Reading) : Type 0 where
   pub watch : r.journal.options.watch.room ≡ 16
-  pub refused : r.journal.refused.room ≡ r.journal.options.workers
-  pub pushes : r.journal.pushes.room ≡ r.journal.options.workers
-  pub answers : r.journal.answers.room ≡ r.journal.options.readers * r.journal.options.asks
-  pub live : r.journal.live.room ≡ 1024
-  pub bits : All (λ bits. length bits ≡ 2 ^ 27) r.journal.refused.items
-  pub clear : IsClearFrom r.least r.journal.refused.items
-  pub upto : All (λ a. a.upto.items ≡ replicate r.journal.options.workers 0) r.journal.answers.items
+  pub refused : r.journal.lists.refused.room ≡ r.journal.options.workers
+  pub pushes : r.journal.lists.pushes.room ≡ r.journal.options.workers
+  pub answers : r.journal.lists.answers.room ≡ r.journal.options.readers * r.journal.options.asks
+  pub live : r.journal.lists.live.room ≡ 1024
+  pub bits : All (λ bits. length bits ≡ 2 ^ 27) r.journal.lists.refused.items
+  pub clear : IsClearFrom r.least r.journal.lists.refused.items
+  pub upto : All (λ a. a.upto.items ≡ replicate r.journal.options.workers 0) r.journal.lists.answers.items
 
 -- an answer with the reader, the number and the lengths of the one at this place
 pub record IsNextAnswer (o : Options) (place : ℕ) (a : Answer) : Type 0 where
@@ -70,9 +71,10 @@ pub record IsNextAnswer (o : Options) (place : ℕ) (a : Answer) : Type 0 where
   pub upto : a.upto.items ≡ replicate o.workers 0
   pub shown : length a.shown.items ≡ length (keys_of o)
 
--- one front number for each worker, and one estimate for each asked key
+-- one front number for each worker, none of them above 2 ^ 27, and one estimate for each asked key
 pub record HasLengths (o : Options) (a : AnswerParts) : Type 0 where
   pub front : length a.front ≡ o.workers
+  pub small : All (λ n. n ≤ 2 ^ 27) a.front
   pub shown : length a.shown ≡ length (keys_of o)
 
 -- the answers so far are those of the first places, by reader, then by number
@@ -83,12 +85,14 @@ AreInOrder asks answers = places_of answers ≡ map (λ place. (place / asks, pl
 abbrev pub IsStaged : Draft → Type 0
 IsStaged d =
     (d.stage ≡ Listing)
-    ⊎ ((length d.told.pushes ≡ d.told.options.workers) × (length d.told.answers ≡ d.told.options.readers * d.told.options.asks) × ((d.stage ≡ Counted) ⊎ (d.stage ≡ Ended)))
+    ⊎ ((length d.told.pushes ≡ d.told.options.workers) × (length d.told.answers ≡ d.told.options.readers * d.told.options.asks)
+    × ((d.stage ≡ Counted) ⊎ (d.stage ≡ Ended)))
 
 -- what holds of each draft to which lines lead, once the options are read
 pub record IsProper (d : Draft) : Type 0 where
   pub lawful : IsLawful d.told.options
   pub pushes : length d.told.pushes ≤ d.told.options.workers
+  pub sent : All (λ n. n ≤ 2 ^ 27) d.told.pushes
   pub refused_len : length d.told.refused ≡ length d.told.pushes
   pub refused : d.refused ≤ 2 ^ 27
   pub due : d.due ≤ d.refused

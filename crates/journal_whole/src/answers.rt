@@ -88,15 +88,16 @@ pub(crate) fn take_answer(
     requires proper { IsProper (draft_of reading.old) }
     requires listing { reading.old.place ≡ Place.Lists }
     requires due { reading.old.due ≡ 0 }
-    requires all { length reading.old.journal.pushes.items ≡ reading.old.journal.options.workers }
-    requires more { length reading.old.journal.answers.items < reading.old.journal.options.readers * reading.old.journal.options.asks }
+    requires all { length reading.old.journal.lists.pushes.items ≡ reading.old.journal.options.workers }
+    requires more { length reading.old.journal.lists.answers.items
+        < reading.old.journal.options.readers * reading.old.journal.options.asks }
     ensures rooms { IfOk result (λ _. HasRooms reading.new) }
     ensures judges { IfOk result (λ taken. Judges (draft_of reading.old) (draft_of reading.new) line.now taken) }
 {
-    let place = reading.journal.answers.len();
+    let place = reading.journal.lists.answers.len();
     let mut answer = next_answer(alloc, &reading.journal.options, place)?;
     if read_next(line, &mut answer) {
-        reading.journal.answers.push(answer);
+        reading.journal.lists.answers.push(answer);
         Ok(true)
     } else {
         Ok(false)

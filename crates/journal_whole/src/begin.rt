@@ -8,6 +8,7 @@ use flow_base::NoMemory;
 use hash_rows::Options;
 use listed::Listed;
 use octo_text::Journal;
+use push_history::RunLists;
 use std::alloc::Global;
 
 /// The reading of a journal whose options are read, with room for all that may come but the bits.
@@ -21,15 +22,15 @@ pub(crate) fn begin(alloc: Global, options: Options) -> Result<Reading, NoMemory
     let pushes = Listed::new(alloc, options.workers)?;
     let answers = Listed::new(alloc, options.readers * options.asks)?;
     let live = Listed::new(alloc, 1024)?;
+    let lists = RunLists {
+        refused,
+        pushes,
+        answers,
+        live,
+        missed: 0,
+    };
     Ok(Reading {
-        journal: Journal {
-            options,
-            refused,
-            pushes,
-            answers,
-            live,
-            missed: 0,
-        },
+        journal: Journal { options, lists },
         place: Place::Lists,
         refused: 0,
         due: 0,

@@ -58,7 +58,7 @@ pub(crate) fn take_watched(line: &[u8], reading: &mut Reading) -> bool
     ensures no { result ≡ false → (k : FlowKey) → MayFollow (draft_of reading.old) (Watched k) → line.now ≢ line_of (Watched k) }
 {
     let options = &mut reading.journal.options;
-    if reading.journal.pushes.len() > 0 || !may_watch(options) {
+    if reading.journal.lists.pushes.len() > 0 || !may_watch(options) {
         return false;
     }
     match watched_in(line, options.watch.as_slice()) {
@@ -79,12 +79,12 @@ pub(crate) fn take_live(line: &[u8], reading: &mut Reading) -> bool
     ensures same { result ≡ false → reading.new ≡ reading.old }
     ensures no { result ≡ false → (k : FlowKey) → MayFollow (draft_of reading.old) (Live k) → line.now ≢ line_of (Live k) }
 {
-    if reading.journal.live.len() >= MOST_LIVE {
+    if reading.journal.lists.live.len() >= MOST_LIVE {
         return false;
     }
     match read_key(line, b"live") {
         Some(key) => {
-            reading.journal.live.push(key);
+            reading.journal.lists.live.push(key);
             true
         }
         None => false,

@@ -12,5 +12,5 @@ mod single;
 mod whole;
 mod workers;
 
-pub use laws::{no_bad_line, one_bad_line, one_journal};
+pub use laws::{broken_off, no_bad_line, one_bad_line, one_journal};
 pub use whole::{JournalStop, read_journal};

@@ -1,12 +1,12 @@
-ghost use Rattle.std.specs.Prelude.{◌≡◌, ◌≤◌, ℕ, List, IfOk, IfErr, IsErrOf, OnOk, true, false};
+ghost use Rattle.std.specs.Prelude.{◌≡◌, ◌≤◌, ℕ, List, [], IfOk, IfErr, IsErrOf, OnOk, true, false};
 ghost use Rattle.flow_base.specs.Causes.{Rose};
 ghost use Rattle.flow_base.specs.Flow.{behind};
-ghost use Rattle.flow_base.specs.LinesRead.{left_of};
+ghost use Rattle.flow_base.specs.LinesRead.{left_of, BrokeOff};
 ghost use Rattle.journal_read.specs.Drafts.{MayFollow, read_on};
 ghost use Rattle.journal_read.specs.Entries.{Entry, line_of};
 ghost use Rattle.journal_whole.specs.Drafted.{draft_of, HasRooms, IsProper};
 ghost use Rattle.journal_whole.specs.Steps.{IsNone};
-ghost use Rattle.journal_whole.specs.Taken.{TakesEntries, TakesEntry, TakesOther, TakesUpTo};
+ghost use Rattle.journal_whole.specs.Taken.{BreaksFrom, TakesEntries, TakesEntry, TakesOther, TakesUpTo};
 
 use crate::reading::{Place, Reading, is_complete, take_line};
 use crate::whole::JournalStop;
@@ -28,6 +28,8 @@ fn read_entry<S: Source>(
     ensures none { IfOk result (λ taken. taken ≡ false
         → TakesOther (IsNone (draft_of reading.old)) (left_of S.left source.old) (left_of S.left source.new)) }
     ensures bad { (line : ℕ) → IsErrOf result (JournalStop.BadJournal line) → ⊥ }
+    ensures broken { IsErrOf result JournalStop.ReadFault → BrokeOff (left_of S.left source.old) (left_of S.left source.new) }
+    ensures drained { IsErrOf result JournalStop.ReadFault → source.new.window ≡ [] }
     ensures read { IsErrOf result JournalStop.ReadFault → Rose (S.faults source.old.source.now) (S.faults source.new.source.now) }
     ensures front { (given : List ℕ) × (left_of S.left source.old ≡ behind given (left_of S.left source.new)) }
     ensures later { S.faults source.old.source.now ≤ S.faults source.new.source.now }
@@ -58,6 +60,9 @@ pub(crate) fn read_lists<S: Source>(
         (TakesEntries (draft_of reading.old) (draft_of reading.new) (left_of S.left source.old) (left_of S.left source.new)) }
     ensures bad { (line : ℕ) → IsErrOf result (JournalStop.BadJournal line)
         → TakesUpTo (draft_of reading.old) 2 (left_of S.left source.old) (left_of S.left source.new) line }
+    ensures broken { IsErrOf result JournalStop.ReadFault
+        → BreaksFrom (draft_of reading.old) (left_of S.left source.old) (left_of S.left source.new) }
+    ensures drained { IsErrOf result JournalStop.ReadFault → source.new.window ≡ [] }
     ensures read { IsErrOf result JournalStop.ReadFault → Rose (S.faults source.old.source.now) (S.faults source.new.source.now) }
     ensures front { (given : List ℕ) × (left_of S.left source.old ≡ behind given (left_of S.left source.new)) }
     ensures later { S.faults source.old.source.now ≤ S.faults source.new.source.now }

@@ -56,7 +56,7 @@ fn take_first(alloc: Global, line: &[u8], reading: &mut Reading) -> Result<bool,
     requires proper { IsProper (draft_of reading.old) }
     requires listing { reading.old.place ≡ Place.Lists }
     requires due { reading.old.due ≡ 0 }
-    requires more { length reading.old.journal.pushes.items < reading.old.journal.options.workers }
+    requires more { length reading.old.journal.lists.pushes.items < reading.old.journal.options.workers }
     ensures rooms { IfOk result (λ _. HasRooms reading.new) }
     ensures judges { IfOk result (λ taken. Judges (draft_of reading.old) (draft_of reading.new) line.now taken) }
 {
@@ -79,10 +79,10 @@ fn take_listed(alloc: Global, line: &[u8], reading: &mut Reading) -> Result<bool
         return Ok(take_run(line, reading));
     }
     let options = &reading.journal.options;
-    if reading.journal.pushes.len() < options.workers {
+    if reading.journal.lists.pushes.len() < options.workers {
         return take_first(alloc, line, reading);
     }
-    if reading.journal.answers.len() < options.readers * options.asks {
+    if reading.journal.lists.answers.len() < options.readers * options.asks {
         return take_answer(alloc, line, reading);
     }
     Ok(take_last(line, reading))

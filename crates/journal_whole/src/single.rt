@@ -16,7 +16,7 @@ pub(crate) fn take_missed(line: &[u8], reading: &mut Reading) -> bool
 {
     match read_missed(line) {
         Some(missed) => {
-            reading.journal.missed = missed;
+            reading.journal.lists.missed = missed;
             reading.place = Place::Tallied;
             true
         }

@@ -45,19 +45,19 @@ pub(crate) fn take_worker(
     requires proper { IsProper (draft_of reading.old) }
     requires listing { reading.old.place ≡ Place.Lists }
     requires due { reading.old.due ≡ 0 }
-    requires more { length reading.old.journal.pushes.items < reading.old.journal.options.workers }
+    requires more { length reading.old.journal.lists.pushes.items < reading.old.journal.options.workers }
     ensures rooms { IfOk result (λ _. HasRooms reading.new) }
     ensures yes { IfOk result (λ taken. taken ≡ true → Reads (draft_of reading.old) (draft_of reading.new) line.now) }
     ensures no { IfOk result (λ taken. taken ≡ false
         → (w p r : ℕ) → MayFollow (draft_of reading.old) (Worker w p r) → line.now ≢ line_of (Worker w p r)) }
 {
-    let worker = reading.journal.pushes.len();
+    let worker = reading.journal.lists.pushes.len();
     let Some(said) = worker_in(line, worker, reading.refused) else {
         return Ok(false);
     };
     let bits = Bits::new(alloc, MOST_UPDATES)?;
-    reading.journal.refused.push(bits);
-    reading.journal.pushes.push(said.pushes);
+    reading.journal.lists.refused.push(bits);
+    reading.journal.lists.pushes.push(said.pushes);
     reading.refused += said.refused as u32;
     reading.due = said.refused as u32;
     reading.least = 0;
@@ -84,7 +84,7 @@ fn is_next(said: &RunLine, reading: &Reading) -> bool
     ensures yes { result ≡ true → MayFollow (draft_of reading.now) (Run said.now.worker said.now.first said.now.last) }
     ensures no { result ≡ false → MayFollow (draft_of reading.now) (Run said.now.worker said.now.first said.now.last) → ⊥ }
 {
-    let workers = u64::from(reading.journal.pushes.len());
+    let workers = u64::from(reading.journal.lists.pushes.len());
     if !is_in_place(said, workers, u64::from(reading.least)) {
         return false;
     }
@@ -94,7 +94,7 @@ fn is_next(said: &RunLine, reading: &Reading) -> bool
 // What a line of refused updates says, where it may come next.
 fn run_in(line: &[u8], reading: &Reading) -> Option<RunLine>
     requires listing { reading.now.place ≡ Place.Lists }
-    requires few { length reading.now.journal.pushes.items ≤ 16 }
+    requires few { length reading.now.journal.lists.pushes.items ≤ 16 }
     ensures some { IfSome result (λ said. MayFollow (draft_of reading.now) (Run said.worker said.first said.last)) }
     ensures line { MatchOption result
         ((w a b : ℕ) → MayFollow (draft_of reading.now) (Run w a b) → line.now ≢ line_of (Run w a b))
@@ -138,7 +138,7 @@ pub(crate) fn take_run(line: &[u8], reading: &mut Reading) -> bool
     };
     let start = said.first as u32;
     let end = said.last as u32 + 1;
-    mark(&mut reading.journal.refused, start, end);
+    mark(&mut reading.journal.lists.refused, start, end);
     reading.due -= end - start;
     reading.least = end + 1;
     true

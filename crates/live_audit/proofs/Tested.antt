@@ -1,6 +1,6 @@
 -- The tests of a live key, and of how many were missed, from those of their parts.
 use Rattle.std.proofs.Common.{◌≡◌, ◌+◌, ◌&&◌, ◌||◌, ◌==◌, ℕ, ℤ, zero, suc, List, [], ◌∷◌, ◌++◌, length, map, filter, count_by, Bool, true, false, not, nat_lt, nat_le, refl, sym, ap, ap₂, ◌∙◌, arith, subst}
-use Rattle.std.specs.Prelude.{Option, None, Some, Result, Ok, Err, IfOk, int_le, is_some, slice_get}
+use Rattle.std.specs.Prelude.{Option, None, Some, Result, Ok, Err, IfOk, int_le, slice_get}
 use Rattle.std.specs.List.{flat_map, range_with_len}
 use Rattle.std.specs.Global.{Vec}
 use Rattle.std.proofs.lemmas.List.Sums.{length-filter}
@@ -214,11 +214,7 @@ bounds_parts line o j messages sure possible few many cm a b c d =
     ap₂ first_of (c ∙ ap₂ (λ (n : ℕ) (x : Bool). first_failing (far n x ∷ [])) a (sym cm)) (d ∙ ap₂ (λ (n : ℕ) (x : Bool). first_failing (near n x ∷ [])) b (sym cm))
     ∙ sym (first_of_both (far sures (is_count_min o.sketch) ∷ []) (near possibles (is_count_min o.sketch) ∷ []))
 
-pub first_alone : (failure other : Option Failure) → is_some failure ≡ true → failure ≡ first_of failure other
-first_alone None other some = absurd (cc)
-first_alone (Some f) other some = refl
-
-pub keys_line : (j : Kept) (first : ℕ) → first ≡ live_line (content_of j) 0 → first + length j.live.items ≡ missed_line (content_of j)
+pub keys_line : (j : Kept) (first : ℕ) → first ≡ live_line (content_of j) 0 → first + length j.lists.live.items ≡ missed_line (content_of j)
 unfolding content_of
 keys_line j first is = missed_line_at (content_of j) first is
 

@@ -19,4 +19,5 @@ pub record IsKnown {K H : Type 0} (r : Rules) (o : Options) (live : List FlowKey
   pub sent_is : (key : FlowKey) → is_among k.sent key ≡ (is_among (distinct_keys live) key && has_key (all_messages lists) key)
   pub shape : k.table.shape ≡ o.shape
   pub told : IsTableOf r k.table (all_messages lists)
-  pub alone_is : IsAlone (is_lone (lists_of lists)) (live_keys r o.shape o.heavy o.least (all_messages lists)) (missed_keys r o.shape o.heavy o.least (all_messages lists)) k.alone
+  pub alone_is : IsAlone (is_lone (lists_of lists)) (live_keys r o.shape o.heavy o.least (all_messages lists))
+      (missed_keys r o.shape o.heavy o.least (all_messages lists)) k.alone

@@ -71,7 +71,8 @@ pub fn count_possible<K: Kind>(
 
 // 1 where the table says enough of a key that isn't live, else 0.
 fn one_sure<K: Kind>(table: &Table<K>, least: i64, live: &KeySet, key: &FlowKey) -> u64
-    ensures one { result ≡ (if is_sure least live.now (record { key = key.now; estimate = K.rules.estimate table.now.shape table.now.cells key.now }) then 1 else 0) }
+    ensures one { result ≡ (if is_sure least live.now
+        (record { key = key.now; estimate = K.rules.estimate table.now.shape table.now.cells key.now }) then 1 else 0) }
     ensures most { result ≤ 1 }
 {
     if least <= table.estimate(key) && !live.has(key) {
@@ -108,7 +109,8 @@ pub fn count_sure<K: Kind>(
     requires shape { IsShape shape }
     requires few { AreFew lists.now }
     requires fit { All (λ list. All (FitsIn K.rules shape) list.items) lists.now }
-    ensures { IfOk result (λ count. count ≡ count_by (is_sure least live.now) (flat_map (λ list. notes_of K.rules shape list.items) lists.now)) }
+    ensures { IfOk result (λ count. count ≡ count_by (is_sure least live.now)
+        (flat_map (λ list. notes_of K.rules shape list.items) lists.now)) }
 {
     let mut count = 0;
     for list in lists {

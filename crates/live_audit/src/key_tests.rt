@@ -44,7 +44,8 @@ fn twice_failure(line: u32, first: u32, live: &[FlowKey], place: u32) -> Option<
 
 // The table says too little of the key.
 fn reach_failure(line: u32, sketch: Sketch, estimate: i64, least: i64) -> Option<Failure>
-    ensures { result ≡ first_failing (test line (Signed estimate) (Signed least) (not (is_count_min sketch) || int_le least estimate) ∷ []) }
+    ensures { result ≡ first_failing (test line (Signed estimate) (Signed least)
+        (not (is_count_min sketch) || int_le least estimate) ∷ []) }
 {
     let holds = !is_count_min(sketch) || least <= estimate;
     failure_of(line, Value::Signed(estimate), Value::Signed(least), holds)
@@ -65,19 +66,19 @@ pub fn live_key_failure<K: Kind>(
     first: u32,
 ) -> Option<Failure>
     requires sketch { journal.now.options.sketch ≡ K.sketch }
-    requires place { place < length journal.now.live.items }
-    requires few { length journal.now.live.items ≤ 65536 }
+    requires place { place < length journal.now.lists.live.items }
+    requires few { length journal.now.lists.live.items ≤ 65536 }
     requires first { first ≡ live_line (content_of journal.now) 0 }
     requires low { first ≤ 2147500000 }
-    ensures { (lists : List (Vec Push)) → IsKnown K.rules journal.now.options journal.now.live.items lists known.now
+    ensures { (lists : List (Vec Push)) → IsKnown K.rules journal.now.options journal.now.lists.live.items lists known.now
         → result ≡ first_failing (live_tests journal.now.options (content_of journal.now) (lists_of lists) place) }
 {
     let options = &journal.options;
     let line = first + place;
-    let key = journal.live.get(place);
+    let key = journal.lists.live.get(place);
     let sent = may_live(options.sketch, &known.sent, key);
     let absent = failure_of(line, Value::Key(*key), Value::Absent, sent);
-    let twice = twice_failure(line, first, journal.live.as_slice(), place);
+    let twice = twice_failure(line, first, journal.lists.live.as_slice(), place);
     let number = u64::from(place) + 1;
     let room = number_failure(
         line,

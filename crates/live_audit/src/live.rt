@@ -23,13 +23,14 @@ use std::alloc::Global;
 // The first test of the live keys that fails.
 fn keys_failure<K: Kind>(journal: &Journal, known: &Known<K>, first: u32) -> Option<Failure>
     requires sketch { journal.now.options.sketch ≡ K.sketch }
-    requires few { length journal.now.live.items ≤ 65536 }
+    requires few { length journal.now.lists.live.items ≤ 65536 }
     requires first { first ≡ live_line (content_of journal.now) 0 }
     requires low { first ≤ 2147500000 }
-    ensures { (lists : List (Vec Push)) → IsKnown K.rules journal.now.options journal.now.live.items lists known.now
-        → result ≡ first_failing (flat_map (live_tests journal.now.options (content_of journal.now) (lists_of lists)) (range_with_len 0 (length journal.now.live.items))) }
+    ensures { (lists : List (Vec Push)) → IsKnown K.rules journal.now.options journal.now.lists.live.items lists known.now
+        → result ≡ first_failing (flat_map (live_tests journal.now.options (content_of journal.now) (lists_of lists))
+        (range_with_len 0 (length journal.now.lists.live.items))) }
 {
-    for place in 0..journal.live.len() {
+    for place in 0..journal.lists.live.len() {
         let failure = live_key_failure(journal, known, place, first);
         if failure.is_some() {
             return failure;
@@ -48,21 +49,27 @@ pub fn live_failure<K: Kind>(
 ) -> Result<Option<Failure>, NoMemory>
     requires lawful { IsLawful journal.now.options }
     requires sketch { journal.now.options.sketch ≡ K.sketch }
-    requires live { length journal.now.live.items ≤ 65536 }
+    requires live { length journal.now.lists.live.items ≤ 65536 }
     requires workers { length lists.now ≡ journal.now.options.workers }
     requires few { AreFew lists.now }
     requires sent { AreSent K.rules journal.now.options.shape (lists_of lists.now) }
     requires first { first ≡ live_line (content_of journal.now) 0 }
     requires low { first ≤ 2147500000 }
     ensures { IfOk result (λ failure. failure ≡ first_failing
-        (flat_map (live_tests journal.now.options (content_of journal.now) (lists_of lists.now)) (range_with_len 0 (length journal.now.live.items))
+        (flat_map (live_tests journal.now.options (content_of journal.now) (lists_of lists.now))
+        (range_with_len 0 (length journal.now.lists.live.items))
         ++ missed_tests journal.now.options (content_of journal.now) (lists_of lists.now))) }
 {
-    let known: Known<K> = known_of(alloc, &journal.options, journal.live.as_slice(), lists)?;
+    let known: Known<K> = known_of(
+        alloc,
+        &journal.options,
+        journal.lists.live.as_slice(),
+        lists,
+    )?;
     let failure = keys_failure(journal, &known, first);
     if failure.is_some() {
         return Ok(failure);
     }
-    let line = first + journal.live.len();
+    let line = first + journal.lists.live.len();
     missed_failure_of(alloc, journal, &known, lists, line)
 }

@@ -22,7 +22,8 @@ use std::alloc::Global;
 
 // Some were missed though there was room.
 fn room_failure(line: u32, sketch: Sketch, heavy: u32, live: u32, missed: u64) -> Option<Failure>
-    ensures { result ≡ first_failing (test line (Number missed) (Number 0) ((missed == 0) || (not (is_loglog sketch) && nat_le heavy live)) ∷ []) }
+    ensures { result ≡ first_failing (test line (Number missed) (Number 0)
+        ((missed == 0) || (not (is_loglog sketch) && nat_le heavy live)) ∷ []) }
 {
     let loglog = is_loglog(sketch);
     number_failure(line, missed, 0, missed == 0 || (!loglog && heavy <= live))
@@ -40,8 +41,9 @@ fn bounds_failure<K: Kind>(
     requires sketch { journal.now.options.sketch ≡ K.sketch }
     requires few { AreFew lists.now }
     requires sent { AreSent K.rules journal.now.options.shape (lists_of lists.now) }
-    requires known { IsKnown K.rules journal.now.options journal.now.live.items lists.now known.now }
-    ensures { IfOk result (λ failure. failure ≡ first_failing (bounds_tests line journal.now.options (content_of journal.now) (lists_of lists.now))) }
+    requires known { IsKnown K.rules journal.now.options journal.now.lists.live.items lists.now known.now }
+    ensures { IfOk result (λ failure. failure ≡ first_failing
+        (bounds_tests line journal.now.options (content_of journal.now) (lists_of lists.now))) }
 {
     let options = &journal.options;
     if !is_count_min(options.sketch) {
@@ -49,7 +51,7 @@ fn bounds_failure<K: Kind>(
     }
     let sure = count_sure::<K>(alloc, options.shape, options.least, &known.live, lists)?;
     let possible = count_possible(&known.table, options.least, &known.live, lists);
-    let missed = journal.missed;
+    let missed = journal.lists.missed;
     let few = number_failure(line, missed, sure, sure <= missed);
     Ok(first_of(
         few,
@@ -69,13 +71,14 @@ pub fn missed_failure_of<K: Kind>(
     requires sketch { journal.now.options.sketch ≡ K.sketch }
     requires few { AreFew lists.now }
     requires sent { AreSent K.rules journal.now.options.shape (lists_of lists.now) }
-    requires known { IsKnown K.rules journal.now.options journal.now.live.items lists.now known.now }
+    requires known { IsKnown K.rules journal.now.options journal.now.lists.live.items lists.now known.now }
     requires line { line ≡ missed_line (content_of journal.now) }
-    ensures { IfOk result (λ failure. failure ≡ first_failing (missed_tests journal.now.options (content_of journal.now) (lists_of lists.now))) }
+    ensures { IfOk result (λ failure. failure ≡ first_failing
+        (missed_tests journal.now.options (content_of journal.now) (lists_of lists.now))) }
 {
     let options = &journal.options;
-    let missed = journal.missed;
-    let live = journal.live.len();
+    let missed = journal.lists.missed;
+    let live = journal.lists.live.len();
     let room = room_failure(line, options.sketch, options.heavy, live, missed);
     let others = count_others(&known.live, lists);
     let most = number_failure(line, missed, others, missed <= others);

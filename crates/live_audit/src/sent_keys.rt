@@ -33,7 +33,8 @@ fn add_live(live: &KeySet, sent: &mut KeySet, key: FlowKey) -> Result<(), NoMemo
 
 // Adds the live ones of the messages' keys.
 fn add_sent(live: &KeySet, sent: &mut KeySet, messages: &[Push]) -> Result<(), NoMemory>
-    ensures { OnOk result ((key : FlowKey) → is_among sent.new key ≡ (is_among sent.old key || (is_among live.now key && has_key messages.now key))) }
+    ensures { OnOk result ((key : FlowKey)
+        → is_among sent.new key ≡ (is_among sent.old key || (is_among live.now key && has_key messages.now key))) }
 {
     for message in messages {
         add_live(live, sent, message.key)?;

@@ -24,7 +24,7 @@ returns-then-is_some-clause-failure g c =
 pub reach-requires-clause-len : goal.reach-requires-clause-len
 reach-requires-clause-len g c κs within =
     ap length c.as_slice.ensures
-    ∙ (judged_at c.args.journal.now.options c.args.journal.now.answers.items _ c.get-answer.result.now c.requires.answers c.get-answer.ensures).fits.front
+    ∙ (judged_at c.args.journal.now.options c.args.journal.now.lists.answers.items _ c.get-answer.result.now c.requires.answers c.get-answer.ensures).fits.front
     ∙ sym c.requires.workers
 
 pub reach-requires-clause-within : goal.reach-requires-clause-within
@@ -41,7 +41,7 @@ reach-requires-clause-rising g c κs within = λ w.
     let none = sym c.front_failure-failure.ensures ∙ absent c.front_failure-failure.result no in
     let front = c.as_slice.ensures ∙ sym (front_is c.args.journal.now c.args.place c.get-answer.result.now c.get-answer.ensures) in
     let long = ap length (front_is c.args.journal.now c.args.place c.get-answer.result.now c.get-answer.ensures)
-    ∙ (judged_at c.args.journal.now.options c.args.journal.now.answers.items _ c.get-answer.result.now c.requires.answers c.get-answer.ensures).fits.front in
+    ∙ (judged_at c.args.journal.now.options c.args.journal.now.lists.answers.items _ c.get-answer.result.now c.requires.answers c.get-answer.ensures).fits.front in
     let is = begun_rises c.args.line (content_of c.args.journal.now) (lists_of c.args.messages.now) c.args.place none c.args.reached.now.front.items
     (c.requires.len ∙ sym long) c.requires.begins w in
     omega (arith, is, ap (λ (t : List ℕ). place_in t w) front)
@@ -49,7 +49,7 @@ reach-requires-clause-rising g c κs within = λ w.
 pub shown_failure-requires-after_bounds : goal.shown_failure-requires-after_bounds
 shown_failure-requires-after_bounds g c κs within =
     ap length c.as_slice-3.ensures
-    ∙ (judged_at c.args.journal.now.options c.args.journal.now.answers.items _ c.get-answer.result.now c.requires.answers c.get-answer.ensures).fits.shown
+    ∙ (judged_at c.args.journal.now.options c.args.journal.now.lists.answers.items _ c.get-answer.result.now c.requires.answers c.get-answer.ensures).fits.shown
     ∙ sym (ap length (c.as_slice-2.ensures ∙ c.requires.keys))
 
 pub returns-clause-front : goal.returns-clause-front
@@ -70,7 +70,7 @@ returns-clause-failure g c =
     let none = sym c.front_failure-failure.ensures ∙ absent c.front_failure-failure.result no in
     let front = c.reach.ensures.front ∙ c.as_slice.ensures ∙ sym (front_is j c.args.place c.get-answer.result.now c.get-answer.ensures) in
     let long = ap length (front_is j c.args.place c.get-answer.result.now c.get-answer.ensures)
-    ∙ (judged_at o j.answers.items _ c.get-answer.result.now c.requires.answers c.get-answer.ensures).fits.front in
+    ∙ (judged_at o j.lists.answers.items _ c.get-answer.result.now c.requires.answers c.get-answer.ensures).fits.front in
     let lists : length messages ≡ o.workers = sym (lists_long c.args.messages.now) ∙ c.requires.workers in
     let within_all : (w : ℕ) → w < length messages → place_in c.reach.new.self.front.items w ≤ length (sent_by messages w) =
     (λ w lt. let is = within_of c.args.line (content_of j) messages c.args.place none w lt in omega (arith, is, ap (λ (t : List ℕ). place_in t w) front)) in

@@ -13,13 +13,13 @@ use Rattle.answer_audit.proofs.answers.front_failure.Goals as goal
 pub within_failure-within-requires : goal.within_failure-within-requires
 within_failure-within-requires c =
     ap length c.as_slice-front.ensures
-    ∙ (judged_at c.args.journal.now.options c.args.journal.now.answers.items _ c.get-answer.result.now c.requires.answers c.get-answer.ensures).fits.front
+    ∙ (judged_at c.args.journal.now.options c.args.journal.now.lists.answers.items _ c.get-answer.result.now c.requires.answers c.get-answer.ensures).fits.front
     ∙ sym c.requires.workers
 
 pub order_failure-order-requires-clause-lens : goal.order_failure-order-requires-clause-lens
 order_failure-order-requires-clause-lens c = λ k d lt.
     (c.requires.answers k d lt).fits.front
-    ∙ sym (judged_at c.args.journal.now.options c.args.journal.now.answers.items _ c.get-answer.result.now c.requires.answers c.get-answer.ensures).fits.front
+    ∙ sym (judged_at c.args.journal.now.options c.args.journal.now.lists.answers.items _ c.get-answer.result.now c.requires.answers c.get-answer.ensures).fits.front
     ∙ sym (ap length c.as_slice-front.ensures)
 
 pub returns : goal.returns

@@ -13,7 +13,7 @@ returns-then-answer-eq0 c =
 
 pub rising_failure-requires : goal.rising_failure-requires
 rising_failure-requires c =
-    let items = c.args.journal.now.answers.items in
+    let items = c.args.journal.now.lists.answers.items in
     let o = c.args.journal.now.options in
     ap length c.as_slice.ensures
     ∙ (judged_at o items _ c.get-before.result.now c.requires.answers c.get-before.ensures).fits.front
@@ -23,7 +23,7 @@ rising_failure-requires c =
 pub returns : goal.returns
 returns c =
     let later : (c.get-answer.result.now.number == 0) ≡ false = search rules in
-    let before : slice_get c.args.journal.now.answers.items (c.args.place - 1) ≡ Some c.get-before.result.now = search rules in
+    let before : slice_get c.args.journal.now.lists.answers.items (c.args.place - 1) ≡ Some c.get-before.result.now = search rules in
     c.rising_failure.ensures
     ∙ ap₂ (λ p q. first_failing (map (rising_test c.args.line p q) (range_with_len 0 (length q)))) c.as_slice.ensures c.as_slice-2.ensures
     ∙ rising_later c.args.line c.args.journal.now c.args.place c.get-answer.result.now c.get-before.result.now c.get-answer.ensures before later

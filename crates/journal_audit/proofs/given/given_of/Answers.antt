@@ -3,7 +3,8 @@ use Rattle.std.specs.Prelude.{is_some, map}
 use Rattle.std.specs.List.{range_with_len}
 use Rattle.octo_text.specs.Content.{content_of}
 use Rattle.audit_law.specs.WorkerTests.{all_given, given_by, worker_tests}
-use Rattle.journal_audit.proofs.GivenRanges.{failing_early, none_failing_of, hold_more, items_more}
+use Rattle.audit_law.proofs.Failing.{failing_early, none_failing_of, hold_more}
+use Rattle.journal_audit.proofs.GivenRanges.{items_more}
 use Rattle.journal_audit.proofs.given.given_of.Goals as goal
 
 pub returns-then-is_some-clause-failure : goal.returns-then-is_some-clause-failure

@@ -4,7 +4,7 @@ use Rattle.std.specs.List.{range_with_len}
 use Rattle.shares.specs.Owners.{AreOwners}
 use Rattle.octo_text.specs.Content.{content_of}
 use Rattle.audit_law.specs.WorkerTests.{given_by, worker_tests}
-use Rattle.journal_audit.specs.Readable.{AllHold}
+use Rattle.audit_law.proofs.Failing.{NoneFail}
 use Rattle.journal_audit.proofs.given.given_of.Given as goal
 
 abbrev pub invariant-loop-worker : goal.invariant-loop-worker
@@ -13,5 +13,5 @@ invariant-loop-worker g l = record {
   room : l.journal.options.workers ≤ vec_capacity l.messages;
   owners : AreOwners l.journal.options l.packets l.owners;
   len : vec_len l.messages ≡ l.worker;
-  hold : AllHold (worker_tests l.packets l.journal.options (content_of l.journal)) l.worker;
+  hold : NoneFail (worker_tests l.packets l.journal.options (content_of l.journal)) l.worker;
 }

@@ -7,9 +7,9 @@ use Rattle.journal_audit.proofs.runs.count_runs.Goals as goal
 
 pub loop-start-init : goal.loop-start-init
 loop-start-init c =
-    let first = c.next_place-start.ensures in
-    let all : runs_of (marked c.args.bits.now) ≡ runs_of (marked_behind c.next_place-start.result c.args.bits.now) =
-    ap runs_of (marked_clear c.next_place-start.result c.args.bits.now 0 c.next_place-start.result (omega arith) first.high first.before) in
+    let first = c.next-start.ensures in
+    let all : runs_of (marked c.args.bits.now) ≡ runs_of (marked_behind c.next-start.result c.args.bits.now) =
+    ap runs_of (marked_clear c.next-start.result c.args.bits.now 0 c.next-start.result (omega arith) first.high first.before) in
     record {
       count = omega (arith, ap (length {A = ℕ × ℕ}) all);
       few = omega arith;
@@ -22,11 +22,11 @@ pub loop-start-preserved : goal.loop-start-preserved
 loop-start-preserved c =
     let bits = c.args.bits.now in
     let start = c.loop-start.start in
-    let end = c.next_place-end.result in
-    let next = c.next_place-start-in-loop-start.result in
+    let end = c.run_end-end.result in
+    let next = c.next-start-in-loop-start.result in
     let i = c.loop-start.invariant in
-    let n = c.next_place-end.ensures in
-    let m = c.next_place-start-in-loop-start.ensures in
+    let n = c.run_end-end.ensures in
+    let m = c.next-start-in-loop-start.ensures in
     let within : start < length bits = omega (arith, i.len, c.loop-start-test.true) in
     let past : start < end = past_set bits start end within (i.set within) n.low n.found in
     let run : runs_of (marked_behind start bits) ≡ (start, end - 1) ∷ runs_of (marked_behind next bits) =

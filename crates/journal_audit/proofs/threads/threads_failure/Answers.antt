@@ -116,6 +116,6 @@ returns g c =
     let lists = ap (λ (ls : List (Vec Push)). lists_of ls) c.deref.ensures.value ∙ given in
     let listed = ap (λ (ls : List (Vec Push)). lists_of ls) c.deref-2.ensures.value ∙ given in
     let answers = sym (answers_same packets j (lists_of c.deref.result.now) lists) ∙ sym c.in_ok-failure.ensures ∙ absent c.in_ok-failure.failure clear in
-    let live = flat_map (live_tests o (content_of j) (lists_of c.deref-2.result.now)) (range_with_len 0 (length j.live.items)) ++ missed_tests o (content_of j) (lists_of c.deref-2.result.now) in
+    let live = flat_map (live_tests o (content_of j) (lists_of c.deref-2.result.now)) (range_with_len 0 (length j.lists.live.items)) ++ missed_tests o (content_of j) (lists_of c.deref-2.result.now) in
     if_ok c.live_failure.result (first_failing live) (first_failing (tests_of packets o (content_of j)))
     (live_first packets o (content_of j) (first_failing live) none answers (live_same packets j (lists_of c.deref-2.result.now) listed)) c.live_failure.ensures

@@ -12,8 +12,8 @@ returns-then-updates-len c =
 
 pub returns-then-place-len : goal.returns-then-place-len
 returns-then-place-len c =
-    let next = c.next_place-place.ensures in
-    let place = c.next_place-place.result in
+    let next = c.next-place.ensures in
+    let place = c.next-place.result in
     let within : place < length c.get-refused.result.now = search rules in
     let made : ℕ → ℕ → ℕ → Failure = λ (line kept lawful : ℕ). record { line = line; kept = Number kept; lawful = Number lawful } in (
       place,
@@ -24,6 +24,6 @@ returns-then-place-len c =
 
 pub returns-else-place-len : goal.returns-else-place-len
 returns-else-place-len c =
-    let next = c.next_place-place.ensures in
-    let past : length c.get-refused.result.now ≤ c.next_place-place.result = search rules in
-    past_none c.args.journal.now c.args.worker c.get-refused.result.now c.get-refused.ensures c.args.updates c.next_place-place.result past next.before
+    let next = c.next-place.ensures in
+    let past : length c.get-refused.result.now ≤ c.next-place.result = search rules in
+    past_none c.args.journal.now c.args.worker c.get-refused.result.now c.get-refused.ensures c.args.updates c.next-place.result past next.before

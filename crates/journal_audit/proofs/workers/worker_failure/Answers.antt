@@ -14,7 +14,7 @@ returns-then-pushes-messages c = λ packets sent updates first.
     let j = content_of c.args.journal.now in
     let o = c.args.journal.now.options in
     let kept : c.get-pushes.result.now ≡ get_or j.pushes c.args.worker 0 =
-    sym (pushes_is c.args.journal.now c.args.worker ∙ get_or_from_slice_get c.args.journal.now.pushes.items c.args.worker c.get-pushes.result.now 0 c.get-pushes.ensures) in
+    sym (pushes_is c.args.journal.now c.args.worker ∙ get_or_from_slice_get c.args.journal.now.lists.pushes.items c.args.worker c.get-pushes.result.now 0 c.get-pushes.ensures) in
     let differ : c.get-pushes.result.now ≢ length c.args.sent.now = search rules in
     ap {B = Option Failure} (λ (line : ℕ). Some (record { line = line; kept = Number c.get-pushes.result.now; lawful = Number (length c.args.sent.now) })) c.line_of_worker.ensures.line
     ∙ sym (pushes_fail packets o j c.args.worker c.get-pushes.result.now (length c.args.sent.now) kept (ap length sent) differ)
@@ -24,7 +24,7 @@ returns-then-waiting-ne0 c = λ packets sent updates first.
     let j = content_of c.args.journal.now in
     let o = c.args.journal.now.options in
     let kept : c.get-pushes.result.now ≡ get_or j.pushes c.args.worker 0 =
-    sym (pushes_is c.args.journal.now c.args.worker ∙ get_or_from_slice_get c.args.journal.now.pushes.items c.args.worker c.get-pushes.result.now 0 c.get-pushes.ensures) in
+    sym (pushes_is c.args.journal.now c.args.worker ∙ get_or_from_slice_get c.args.journal.now.lists.pushes.items c.args.worker c.get-pushes.result.now 0 c.get-pushes.ensures) in
     let same : c.get-pushes.result.now ≡ length c.args.sent.now = search rules in
     let waiting = c.refused_in_wait-waiting.ensures
     ∙ ap (λ (n : ℕ). if is_wait o.full then n else 0) (c.count-refused.ensures ∙ sym (refused_count c.args.journal.now c.args.worker c.get.result.now c.get.ensures)) in
@@ -38,7 +38,7 @@ returns c = λ packets sent updates first.
     let j = content_of c.args.journal.now in
     let o = c.args.journal.now.options in
     let kept : c.get-pushes.result.now ≡ get_or j.pushes c.args.worker 0 =
-    sym (pushes_is c.args.journal.now c.args.worker ∙ get_or_from_slice_get c.args.journal.now.pushes.items c.args.worker c.get-pushes.result.now 0 c.get-pushes.ensures) in
+    sym (pushes_is c.args.journal.now c.args.worker ∙ get_or_from_slice_get c.args.journal.now.lists.pushes.items c.args.worker c.get-pushes.result.now 0 c.get-pushes.ensures) in
     let same : c.get-pushes.result.now ≡ length c.args.sent.now = search rules in
     let waiting = c.refused_in_wait-waiting.ensures
     ∙ ap (λ (n : ℕ). if is_wait o.full then n else 0) (c.count-refused.ensures ∙ sym (refused_count c.args.journal.now c.args.worker c.get.result.now c.get.ensures)) in

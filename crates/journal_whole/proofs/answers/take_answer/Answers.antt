@@ -18,7 +18,7 @@ pub returns-else-read_next-clause-judges : goal.returns-else-read_next-clause-ju
 returns-else-read_next-clause-judges c = record {
   yes = λ never. absurd (true≢false (sym never));
   no = λ _. answer_alone (draft_of c.args.reading.now) c.args.line.now (ap stage_of c.requires.listing) c.requires.due c.requires.proper.lawful.some_workers c.requires.all
-      (omega (arith, c.requires.more, length-map c.args.reading.now.journal.answers.items parts_of))
+      (omega (arith, c.requires.more, length-map c.args.reading.now.journal.lists.answers.items parts_of))
       (λ a may. c.read_next.ensures.no c.if-read_next.false c.args.reading.now.journal.options c.len-place.result c.in_ok-answer.ensures a
-      (answer_back c.args.reading.now.journal.options c.args.reading.now.journal.answers.items c.len-place.result a c.len-place.ensures may.2));
+      (answer_back c.args.reading.now.journal.options c.args.reading.now.journal.lists.answers.items c.len-place.result a c.len-place.ensures may.2));
 }

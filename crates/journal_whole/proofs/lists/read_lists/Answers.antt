@@ -3,7 +3,8 @@ use Rattle.std.specs.List.{flat_map}
 use Rattle.flow_base.specs.LinesRead.{left_of}
 use Rattle.journal_read.specs.Entries.{line_of}
 use Rattle.journal_whole.specs.Drafted.{draft_of}
-use Rattle.journal_whole.proofs.Joining.{chain, same_line, still_going}
+use Rattle.journal_whole.specs.declared.whole.JournalStop.TheVariants.{ReadFault}
+use Rattle.journal_whole.proofs.Joining.{chain, same_line, same_stop, still_going}
 use Rattle.journal_whole.proofs.Weights.{entry_grows, entry_proper, went_none, went_more, weight_most}
 use Rattle.journal_whole.proofs.lists.read_lists.Goals as goal
 
@@ -53,3 +54,12 @@ lines-preserved g c =
           c.lines.invariant.2 c.lines.invariant.3 step,
       omega (arith, c.lines.invariant.4, c.read_entry.ensures.later),
     )
+
+pub returns-in-Err-clause-broken : goal.returns-in-Err-clause-broken
+returns-in-Err-clause-broken g c = λ is. record {
+  after = draft_of c.lines.reading;
+  middle = left_of g.S.Source.left c.lines.source;
+  front = c.lines.invariant.3.took;
+  going = still_going c.lines.reading.place (c.is_complete.ensures.no c.lines-test.true);
+  broke = c.in-Err.ensures.broken (same_stop c.in-Err.stop ReadFault is);
+}

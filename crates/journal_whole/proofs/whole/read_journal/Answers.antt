@@ -2,8 +2,8 @@ use Rattle.std.proofs.Common.{◌++◌}
 use Rattle.flow_base.specs.LinesRead.{left_of}
 use Rattle.journal_read.specs.Entries.{line_of, Head, Terms}
 use Rattle.journal_whole.specs.Drafted.{draft_of}
-use Rattle.journal_whole.specs.declared.whole.JournalStop.TheVariants.{BadJournal}
-use Rattle.journal_whole.proofs.Joining.{bad_lists, chain, complete_journal, places_journal, same_stop, whole_journal}
+use Rattle.journal_whole.specs.declared.whole.JournalStop.TheVariants.{BadJournal, ReadFault}
+use Rattle.journal_whole.proofs.Joining.{bad_lists, break_lists, chain, complete_journal, places_journal, readable_journal, same_stop, whole_journal}
 use Rattle.journal_whole.proofs.whole.read_journal.Goals as goal
 
 pub returns-in-Err-read_lists-clause-bad : goal.returns-in-Err-read_lists-clause-bad
@@ -35,3 +35,12 @@ returns-in-Ok-read_lists-clause-front g c = (
 
 pub returns-in-Ok-read_lists-clause-places : goal.returns-in-Ok-read_lists-clause-places
 returns-in-Ok-read_lists-clause-places g c = places_journal c.read_lists.new.reading c.in-Ok-read_lists.ensures.proper c.in-Ok-read_lists.ensures.complete
+
+pub returns-in-Ok-read_lists-clause-readable : goal.returns-in-Ok-read_lists-clause-readable
+returns-in-Ok-read_lists-clause-readable g c =
+    readable_journal c.read_lists.new.reading c.in-Ok-read_lists.ensures.proper c.in-Ok-read_lists.ensures.complete c.in-Ok-read_lists.ensures.rooms.bits
+
+pub returns-in-Err-read_lists-clause-broken : goal.returns-in-Err-read_lists-clause-broken
+returns-in-Err-read_lists-clause-broken g c = λ is.
+    break_lists c.in-Ok.options (draft_of c.in-Ok-begin.reading) (left_of g.S.Source.left c.args.source.now) (left_of g.S.Source.left c.read_opening.new.source) (left_of g.S.Source.left c.read_lists.new.source)
+    c.in-Ok-begin.ensures.draft c.in-Ok.ensures.lawful.0 c.in-Ok.ensures.lawful.1 c.in-Ok.ensures.said (c.in-Err-read_lists.ensures.broken (same_stop c.in-Err-read_lists.stop ReadFault is))

@@ -6,11 +6,11 @@ use Rattle.journal_whole.proofs.Rows.{clear_on}
 use Rattle.journal_whole.proofs.workers.take_run.Goals as goal
 
 pub mark-requires-clause-clear : goal.mark-requires-clause-clear
-mark-requires-clause-clear c = clear_on c.args.reading.now.journal.refused.items c.args.reading.now.least c.in-Some.said.first c.in-Some.ensures.some.2 c.requires.rooms.clear
+mark-requires-clause-clear c = clear_on c.args.reading.now.journal.lists.refused.items c.args.reading.now.least c.in-Some.said.first c.in-Some.ensures.some.2 c.requires.rooms.clear
 
 pub mark-requires-clause-room : goal.mark-requires-clause-room
 mark-requires-clause-room c =
-    omega (arith, c.requires.rooms.refused, c.requires.proper.refused_len, c.requires.proper.pushes, length-map c.args.reading.now.journal.refused.items marked)
+    omega (arith, c.requires.rooms.refused, c.requires.proper.refused_len, c.requires.proper.pushes, length-map c.args.reading.now.journal.lists.refused.items marked)
 
 pub returns-clause-rooms : goal.returns-clause-rooms
 returns-clause-rooms c =

@@ -6,7 +6,7 @@ use Rattle.journal_whole.proofs.Rows.{new_marked}
 use Rattle.journal_whole.proofs.workers.take_worker.Goals as goal
 
 pub push-requires : goal.push-requires
-push-requires c = omega (arith, c.requires.more, c.requires.rooms.refused, c.requires.proper.refused_len, length-map c.args.reading.now.journal.refused.items marked)
+push-requires c = omega (arith, c.requires.more, c.requires.rooms.refused, c.requires.proper.refused_len, length-map c.args.reading.now.journal.lists.refused.items marked)
 
 pub returns-clause-rooms : goal.returns-clause-rooms
 returns-clause-rooms c =

@@ -28,9 +28,9 @@ returns g c = λ lists known.
     let at = first + place in
     let key = c.get-key.result.now in
     let same = kind.is_sketch ∙ ap rules_of (sym c.requires.sketch) in
-    let key_is : key ≡ key_at j.live.items place = sym (get_or_from_slice_get j.live.items place key zero_key c.get-key.ensures) in
+    let key_is : key ≡ key_at j.lists.live.items place = sym (get_or_from_slice_get j.lists.live.items place key zero_key c.get-key.ensures) in
     let heard = c.may_live-sent.ensures
-    ∙ ap (λ (b : Bool). not (is_loglog o.sketch) && b) (heard_is r o same lists j.live.items c.args.known.now.sent place key c.get-key.ensures (known.sent_is key))
+    ∙ ap (λ (b : Bool). not (is_loglog o.sketch) && b) (heard_is r o same lists j.lists.live.items c.args.known.now.sent place key c.get-key.ensures (known.sent_is key))
     ∙ ap (λ (k : FlowKey). not (is_loglog o.sketch) && is_sent_key (lists_of lists) k) key_is in
     let estimate = r.estimate c.args.known.now.table.shape c.args.known.now.table.cells key in
     let says = estimate_is r o same lists c.args.known.now.table key known.shape known.told ∙ ap (estimate_on_all o (lists_of lists)) key_is in

@@ -10,9 +10,9 @@ pub returns-then-is_some : goal.returns-then-is_some
 returns-then-is_some g c = λ lists known.
     let j = c.args.journal.now in
     let place = c.loop-place.place in
-    let lt : place < length j.live.items = search rules in
+    let lt : place < length j.lists.live.items = search rules in
     let some : is_some c.live_key_failure-failure.result ≡ true = search rules in
-    failing_early (live_tests j.options (content_of j) (lists_of lists)) (length j.live.items) place c.live_key_failure-failure.result lt
+    failing_early (live_tests j.options (content_of j) (lists_of lists)) (length j.lists.live.items) place c.live_key_failure-failure.result lt
     (c.loop-place.invariant lists known) (c.live_key_failure-failure.ensures lists known) some
 
 pub loop-place-preserved : goal.loop-place-preserved
@@ -26,5 +26,5 @@ pub returns : goal.returns
 returns g c = λ lists known.
     let j = c.args.journal.now in
     let all = c.loop-place.invariant lists known in
-    let end : c.loop-place.place ≡ length j.live.items = grind arith in
-    sym (none_failing_of (live_tests j.options (content_of j) (lists_of lists)) (length j.live.items) (λ k lt. all k (omega (arith, lt, end))))
+    let end : c.loop-place.place ≡ length j.lists.live.items = grind arith in
+    sym (none_failing_of (live_tests j.options (content_of j) (lists_of lists)) (length j.lists.live.items) (λ k lt. all k (omega (arith, lt, end))))

@@ -9,5 +9,5 @@ use Rattle.live_audit.specs.Known.{IsKnown}
 use Rattle.live_audit.proofs.live.keys_failure.Given as goal
 
 abbrev pub invariant-loop-place : goal.invariant-loop-place
-invariant-loop-place g l = (lists : List (Vec Push)) → IsKnown g.K.Kind.rules l.journal.options l.journal.live.items lists l.known
+invariant-loop-place g l = (lists : List (Vec Push)) → IsKnown g.K.Kind.rules l.journal.options l.journal.lists.live.items lists l.known
     → NoneFail (live_tests l.journal.options (content_of l.journal) (lists_of lists)) l.place

@@ -9,8 +9,8 @@ use Rattle.audit_law.specs.declared.failure.Failure.{Failure}
 use Rattle.audit_law.specs.Firsts.{first_of}
 use Rattle.audit_law.specs.Tests.{first_failing}
 use Rattle.audit_law.specs.LiveTests.{live_tests, missed_tests}
-use Rattle.audit_law.proofs.Failing.{absent, first_of_both}
-use Rattle.live_audit.proofs.Tested.{first_alone, if_ok, keys_line}
+use Rattle.audit_law.proofs.Failing.{absent, first_alone, first_of_both}
+use Rattle.live_audit.proofs.Tested.{if_ok, keys_line}
 use Rattle.live_audit.proofs.live.live_failure.Goals as goal
 
 pub returns-then-is_some : goal.returns-then-is_some
@@ -19,7 +19,7 @@ returns-then-is_some g c =
     let lists = c.args.lists.now in
     let some : is_some c.keys_failure-failure.result ≡ true = search rules in
     let known = subst (λ (live : List FlowKey). IsKnown g.K.Kind.rules j.options live lists c.in_ok-known.known) c.as_slice.ensures c.in_ok-known.ensures in
-    let keys = flat_map (live_tests j.options (content_of j) (lists_of lists)) (range_with_len 0 (length j.live.items)) in
+    let keys = flat_map (live_tests j.options (content_of j) (lists_of lists)) (range_with_len 0 (length j.lists.live.items)) in
     let missed = missed_tests j.options (content_of j) (lists_of lists) in
     first_alone c.keys_failure-failure.result (first_failing missed) some
     ∙ ap (λ (f : Option Failure). first_of f (first_failing missed)) (c.keys_failure-failure.ensures lists known)
@@ -35,7 +35,7 @@ returns g c =
     let lists = c.args.lists.now in
     let no : is_some c.keys_failure-failure.result ≡ false = search rules in
     let known = subst (λ (live : List FlowKey). IsKnown g.K.Kind.rules j.options live lists c.in_ok-known.known) c.as_slice.ensures c.in_ok-known.ensures in
-    let keys = flat_map (live_tests j.options (content_of j) (lists_of lists)) (range_with_len 0 (length j.live.items)) in
+    let keys = flat_map (live_tests j.options (content_of j) (lists_of lists)) (range_with_len 0 (length j.lists.live.items)) in
     let missed = missed_tests j.options (content_of j) (lists_of lists) in
     let none = sym (c.keys_failure-failure.ensures lists known) ∙ absent c.keys_failure-failure.result no in
     let all : first_failing missed ≡ first_failing (keys ++ missed) = sym (first_of_both keys missed ∙ ap (λ (f : Option Failure). first_of f (first_failing missed)) none) in

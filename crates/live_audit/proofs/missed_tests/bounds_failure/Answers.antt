@@ -26,10 +26,10 @@ returns g c =
     let same = kind.is_sketch ∙ ap rules_of (sym c.requires.sketch) in
     let cm : is_count_min o.sketch ≡ true = search rules in
     let counted : c.in_ok-sure.sure ≡ count_by (is_sure o.least c.args.known.now.live) (flat_map (λ list. notes_of r o.shape list.items) lists) = search rules in
-    let sure = counted ∙ ap (λ (live : List FlowKey). count_by (is_sure o.least live) (flat_map (λ list. notes_of r o.shape list.items) lists)) known.live_is ∙ sure_are r o same lists j.live.items in
+    let sure = counted ∙ ap (λ (live : List FlowKey). count_by (is_sure o.least live) (flat_map (λ list. notes_of r o.shape list.items) lists)) known.live_is ∙ sure_are r o same lists j.lists.live.items in
     let counts : c.count_possible-possible.result ≡ count_by (is_possible r c.args.known.now.table o.least c.args.known.now.live) (all_messages lists) = search rules in
     let possible = counts ∙ ap (λ (live : List FlowKey). count_by (is_possible r c.args.known.now.table o.least live) (all_messages lists)) known.live_is
-    ∙ possible_are r o same lists j.live.items c.args.known.now.table known.shape known.told in
+    ∙ possible_are r o same lists j.lists.live.items c.args.known.now.table known.shape known.told in
     c.first_of.ensures
     ∙ bounds_parts c.args.line o (content_of j) (lists_of lists) c.in_ok-sure.sure c.count_possible-possible.result c.number_failure-few.result c.number_failure.result cm sure possible
     c.number_failure-few.ensures c.number_failure.ensures

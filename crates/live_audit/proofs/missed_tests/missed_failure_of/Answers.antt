@@ -18,8 +18,8 @@ returns g c =
     let lists = c.args.lists.now in
     let known = c.requires.known in
     let same = kind.is_sketch ∙ ap rules_of (sym c.requires.sketch) in
-    let others = c.count_others-others.ensures ∙ ap (λ (live : List FlowKey). count_by (is_missed live) (all_messages lists)) known.live_is ∙ others_are r o same lists j.live.items in
-    let live : c.len-live.result ≡ length j.live.items = c.len-live.ensures in
+    let others = c.count_others-others.ensures ∙ ap (λ (live : List FlowKey). count_by (is_missed live) (all_messages lists)) known.live_is ∙ others_are r o same lists j.lists.live.items in
+    let live : c.len-live.result ≡ length j.lists.live.items = c.len-live.ensures in
     let is = alone_as r o same lists c.args.known.now.alone known.alone_is in
     let alone = c.missed_failure-alone.ensures _ _ _ is in
     c.first_of-3.ensures
