@@ -1,7 +1,10 @@
 pub mod Statuses
 pub mod Commands
+pub mod Reasons
+pub mod Audited
 pub mod Texts
 pub mod OneText
 pub mod OneNetworks
 pub mod OneEpochs
+pub mod OneAudit
 pub mod Ends

@@ -22,7 +22,8 @@ use Rattle.prefix_report.specs.PrefixText.{answer_line, capture_lines, hit_lines
 use Rattle.prefix_report.specs.Reports.{IsPrefixReport}
 use Rattle.prefix_report.specs.declared.report.PrefixReport.{PrefixReport}
 use Rattle.octo_run.specs.Networks.{IsPrefixText}
-use Rattle.octo_run.proofs.OneText.{one_capture, one_schedule}
+use Rattle.octo_engine.proofs.OneSchedule.{one_schedule}
+use Rattle.octo_run.proofs.OneText.{one_capture}
 
 -- what the answers of a length tell
 abbrev told : Listed Answer → List AnswerParts

@@ -1,8 +1,5 @@
 -- A run in rounds has one text.
-use Rattle.std.proofs.Common.{◌≡◌, ◌∙◌, ◌<◌, ◌⊎◌, inl, inr, refl, sym, ap, ap₂, subst, arith, ℕ, Bool, true, false, true≢false, List, length, ◌++◌, nat_lt}
-use Rattle.std.proofs.lemmas.Bool.Decides.{nat_tests}
-use Rattle.std.specs.Prelude.{fold}
-use Rattle.std.specs.List.{range_with_len}
+use Rattle.std.proofs.Common.{◌≡◌, ◌∙◌, refl, sym, ap, ap₂, subst, ℕ, Bool, true, false, List, length, ◌++◌}
 use Rattle.capture_load.specs.Capture.{CaptureOf, Whole}
 use Rattle.pcap_read.specs.Records.{Framed}
 use Rattle.capture_load.proofs.Once.{one_outcome}
@@ -12,39 +9,14 @@ use Rattle.hash_rows.specs.declared.options.Mode.{Mode}
 use Rattle.hash_rows.specs.declared.options.Mode.TheVariants.{Rounds}
 use Rattle.hash_rows.specs.declared.options.Options.{Options}
 use Rattle.hash_rows.specs.declared.shape.Packet.{Packet}
-use Rattle.push_history.specs.LagRun.{Terms}
-use Rattle.push_history.specs.declared.event.Event.{Event}
-use Rattle.push_history.specs.Journal.{Journal, journal_of}
+use Rattle.push_history.specs.Journal.{Journal}
 use Rattle.push_history.specs.LawfulJournal.{IsJournalIn, LawfulJournal}
-use Rattle.push_history.specs.Rounds.{AreRounds, IsRoundsJournal, ask_at_end, events_of_rounds}
+use Rattle.push_history.specs.Rounds.{IsRoundsJournal}
 use Rattle.octo_text.specs.JournalText.{journal_text}
+use Rattle.octo_engine.proofs.OneSchedule.{one_journal}
 use Rattle.reports.specs.ReportOf.{AskForOneReport, IsReport}
 use Rattle.reports.proofs.OneReport.{one_report as one_content}
 use Rattle.octo_run.specs.Runs.{IsJournalText, IsReportText, IsRunText}
-
--- rounds end at the first of them behind which no one is busy
-one_number : (t : Terms) (o : Options) (a b : List Event) (x : AreRounds t o a) (y : AreRounds t o b) → x.rounds ≡ y.rounds
-one_number t o a b x y = by (order x.rounds y.rounds)
-  where
-    order : (m n : ℕ) → (m ≡ n) ⊎ ((m < n) ⊎ (n < m))
-    order m n = test (nat_lt m n) refl (nat_lt n m) refl
-      where
-        test : (a : Bool) → nat_lt m n ≡ a → (b : Bool) → nat_lt n m ≡ b → (m ≡ n) ⊎ ((m < n) ⊎ (n < m))
-        test true e b f = inr (inl (grind (arith, nat_tests)))
-        test false e true f = inr (inr (grind (arith, nat_tests)))
-        test false e false f = inl (grind (arith, nat_tests))
-
-    by : (x.rounds ≡ y.rounds) ⊎ ((x.rounds < y.rounds) ⊎ (y.rounds < x.rounds)) → x.rounds ≡ y.rounds
-    by (inl same) = same
-    by (inr (inl less)) = absurd (true≢false (sym (y.busy x.rounds less) ∙ x.idle))
-    by (inr (inr more)) = absurd (true≢false (sym (x.busy y.rounds more) ∙ y.idle))
-
-pub one_schedule : (t : Terms) (o : Options) (a b : List Event) → AreRounds t o a → AreRounds t o b → a ≡ b
-one_schedule t o a b x y =
-    x.all ∙ ap (λ (n : ℕ). fold (ask_at_end o) (events_of_rounds t o n) (range_with_len 0 o.readers)) (one_number t o a b x y) ∙ sym y.all
-
-one_journal : (packets : List Packet) (o : Options) (i j : Journal) → IsRoundsJournal packets o i → IsRoundsJournal packets o j → i ≡ j
-one_journal packets o i j a b = a.journal ∙ ap (journal_of packets o) (one_schedule _ o a.events b.events a.schedule b.schedule) ∙ sym b.journal
 
 -- the journals of one run in rounds
 in_rounds : (packets : List Packet) (o : Options) (j : Journal) → o.mode ≡ Rounds → LawfulJournal packets o j → IsRoundsJournal packets o j

@@ -1,6 +1,5 @@
 -- Which fault a status comes with.
-use Rattle.std.proofs.Common.{◌≡◌, refl, ap, ◌⊎◌, inl, inr}
-use Rattle.std.specs.Prelude.{Result, Err}
+use Rattle.std.proofs.Common.{◌≡◌, refl, ◌⊎◌, inl, inr, ℕ, List}
 use Rattle.flow_base.specs.declared.status.Status.{Status}
 use Rattle.flow_base.specs.declared.status.Status.TheVariants.{Done, Usage, ReadFault, WriteFault, BadCapture, TooMany, Differs}
 use Rattle.pcap_read.specs.declared.bad.Bad.TheVariants.{ShortHeader, UnknownMagic, PcapNg, BadVersion, NotEthernet, TooLong}
@@ -10,7 +9,7 @@ use Rattle.pcapng_read.specs.declared.bad.NgBad.TheVariants.{BadVersion as NgVer
 use Rattle.capture_load.specs.declared.capture.Refusal.{Refusal}
 use Rattle.capture_load.specs.declared.capture.Refusal.TheVariants.{Pcap, Ng}
 use Rattle.octo_run.specs.declared.faults.Fault.{Fault}
-use Rattle.octo_run.specs.declared.faults.Fault.TheVariants.{Usage as UsageFault, ReadFault as SourceFault, WriteFault as SinkFault, Bad as BadFault, NoMemory as MemoryFault}
+use Rattle.octo_run.specs.declared.faults.Fault.TheVariants.{Usage as UsageFault, ReadFault as SourceFault, WriteFault as SinkFault, Bad as BadFault, BadLine as LineFault, NoMemory as MemoryFault, Differs as JournalFault}
 use Rattle.octo_run.specs.Faults.{status_of, status_of_bad}
 
 -- a refusal's status is one of two
@@ -39,50 +38,57 @@ read_fault UsageFault is = absurd (cc)
 read_fault SourceFault is = refl
 read_fault SinkFault is = absurd (cc)
 read_fault (BadFault bad) is = no_bad bad ReadFault is (λ e. cc) (λ e. cc)
+read_fault (LineFault line) is = absurd (cc)
 read_fault MemoryFault is = absurd (cc)
+read_fault (JournalFault line kept lawful) is = absurd (cc)
 
 pub write_fault : (f : Fault) → status_of f ≡ WriteFault → f ≡ SinkFault
 write_fault UsageFault is = absurd (cc)
 write_fault SourceFault is = absurd (cc)
 write_fault SinkFault is = refl
 write_fault (BadFault bad) is = no_bad bad WriteFault is (λ e. cc) (λ e. cc)
+write_fault (LineFault line) is = absurd (cc)
 write_fault MemoryFault is = absurd (cc)
-
-pub never_done : (f : Fault) → status_of f ≡ Done → ⊥
-never_done UsageFault is = cc
-never_done SourceFault is = cc
-never_done SinkFault is = cc
-never_done (BadFault bad) is = no_bad bad Done is (λ e. cc) (λ e. cc)
-never_done MemoryFault is = cc
+write_fault (JournalFault line kept lawful) is = absurd (cc)
 
 pub usage_fault : (f : Fault) → status_of f ≡ Usage → f ≡ UsageFault
 usage_fault UsageFault is = refl
 usage_fault SourceFault is = absurd (cc)
 usage_fault SinkFault is = absurd (cc)
 usage_fault (BadFault bad) is = no_bad bad Usage is (λ e. cc) (λ e. cc)
+usage_fault (LineFault line) is = absurd (cc)
 usage_fault MemoryFault is = absurd (cc)
+usage_fault (JournalFault line kept lawful) is = absurd (cc)
 
-pub never_differs : (f : Fault) → status_of f ≡ Differs → ⊥
-never_differs UsageFault is = cc
-never_differs SourceFault is = cc
-never_differs SinkFault is = cc
-never_differs (BadFault bad) is = no_bad bad Differs is (λ e. cc) (λ e. cc)
-never_differs MemoryFault is = cc
+pub never_done : (f : Fault) → status_of f ≡ Done → ⊥
+never_done UsageFault is = cc
+never_done SourceFault is = cc
+never_done SinkFault is = cc
+never_done (BadFault bad) is = no_bad bad Done is (λ e. cc) (λ e. cc)
+never_done (LineFault line) is = cc
+never_done MemoryFault is = cc
+never_done (JournalFault line kept lawful) is = cc
 
-pub bad_fault : (f : Fault) → (status_of f ≡ BadCapture) ⊎ (status_of f ≡ TooMany) → (bad : Refusal) × (f ≡ BadFault bad)
+pub differs_fault : (f : Fault) → status_of f ≡ Differs → (line : ℕ) × (kept : List ℕ) × (lawful : List ℕ) × (f ≡ JournalFault line kept lawful)
+differs_fault UsageFault is = absurd (cc)
+differs_fault SourceFault is = absurd (cc)
+differs_fault SinkFault is = absurd (cc)
+differs_fault (BadFault bad) is = no_bad bad Differs is (λ e. cc) (λ e. cc)
+differs_fault (LineFault line) is = absurd (cc)
+differs_fault MemoryFault is = absurd (cc)
+differs_fault (JournalFault line kept lawful) is = (line, kept, lawful, refl)
+
+-- a refusal of the capture, or of a line of the journal
+pub bad_fault : (f : Fault) → (status_of f ≡ BadCapture) ⊎ (status_of f ≡ TooMany) → ((bad : Refusal) × (f ≡ BadFault bad)) ⊎ ((line : ℕ) × (f ≡ LineFault line))
 bad_fault UsageFault (inl is) = absurd (cc)
 bad_fault UsageFault (inr is) = absurd (cc)
 bad_fault SourceFault (inl is) = absurd (cc)
 bad_fault SourceFault (inr is) = absurd (cc)
 bad_fault SinkFault (inl is) = absurd (cc)
 bad_fault SinkFault (inr is) = absurd (cc)
-bad_fault (BadFault bad) either = (bad, refl)
+bad_fault (BadFault bad) either = inl (bad, refl)
+bad_fault (LineFault line) either = inr (line, refl)
 bad_fault MemoryFault (inl is) = absurd (cc)
 bad_fault MemoryFault (inr is) = absurd (cc)
-
--- the same failure
-pub fails_by : (f f' : Fault) → f ≡ f' → ◌≡◌ {A = Result (Unit {0}) Fault} (Err f) (Err f')
-fails_by f f' same = ap (λ (x : Fault). Err x) same
-
-pub same_bad : (a b : Refusal) → ◌≡◌ {A = Result (Unit {0}) Fault} (Err (BadFault a)) (Err (BadFault b)) → a ≡ b
-same_bad a b is = cc
+bad_fault (JournalFault line kept lawful) (inl is) = absurd (cc)
+bad_fault (JournalFault line kept lawful) (inr is) = absurd (cc)

@@ -6,11 +6,11 @@ use Rattle.hash_rows.specs.declared.options.Options.{Options}
 use Rattle.hash_rows.specs.declared.shape.Packet.{Packet}
 use Rattle.capture_load.specs.Loads.{IsLoaded}
 use Rattle.capture_load.specs.declared.capture.Capture.{Capture}
-use Rattle.push_history.specs.Journal.{Journal, journal_of as journal_by}
+use Rattle.push_history.specs.Journal.{Journal, journal_of as journal_by, journal_of_lists}
 use Rattle.push_history.specs.LawfulJournal.{IsJournalIn, LawfulJournal}
 use Rattle.push_history.specs.Rounds.{IsRoundsJournal}
 use Rattle.octo_text.specs.ReportText.{report_text}
-use Rattle.octo_run.specs.Results.{HasResults, asked_text, journal_of, results_text}
+use Rattle.octo_run.specs.Results.{HasResults, asked_text, results_text}
 use Rattle.octo_run.specs.Networks.{IsPrefixText}
 use Rattle.octo_run.specs.Runs.{IsJournalText, IsRunText}
 use Rattle.prefixes.specs.declared.network.Prefix.{Prefix}
@@ -45,8 +45,8 @@ run_text o bytes capture r loaded results = record {
     report_is = rw (loaded.packets, loaded.records, loaded.skipped) at results.report_is;
     text_is = refl;
   };
-  journal = asked_text o.journal (journal_of o r);
-  journal_is = asked o.journal _ o (journal_of o r) (rw (loaded.packets) at results.journal_is);
+  journal = asked_text o.journal (journal_of_lists o r.lists);
+  journal_is = asked o.journal _ o (journal_of_lists o r.lists) (rw (loaded.packets) at results.journal_is);
   text_is = refl;
 }
 

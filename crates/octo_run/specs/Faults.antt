@@ -4,7 +4,7 @@ use Rattle.std.specs.Char.{digit_char}
 use Rattle.flow_base.specs.Causes.{Rose}
 use Rattle.flow_base.specs.Flow.{grown, TookFront}
 use Rattle.flow_base.specs.declared.status.Status.{Status}
-use Rattle.flow_base.specs.declared.status.Status.TheVariants.{Usage, ReadFault, WriteFault, BadCapture, TooMany, NoMemory}
+use Rattle.flow_base.specs.declared.status.Status.TheVariants.{Usage, ReadFault, WriteFault, BadCapture, TooMany, NoMemory, Differs}
 use Rattle.pcap_read.specs.declared.bad.Bad.{Bad}
 use Rattle.pcap_read.specs.declared.bad.Bad.TheVariants.{ShortHeader, UnknownMagic, PcapNg, BadVersion, NotEthernet, TooLong}
 use Rattle.pcap_read.specs.declared.bad.Bad.TheVariants.{TooMany as TooManyRecords}
@@ -13,8 +13,11 @@ use Rattle.pcapng_read.specs.declared.bad.NgBad.TheVariants.{ShortSection, BadOr
 use Rattle.pcapng_read.specs.declared.bad.NgBad.TheVariants.{BadVersion as NgVersion, NotEthernet as NgLink, TooLong as NgLong, TooMany as TooManyBlocks}
 use Rattle.capture_load.specs.declared.capture.Refusal.{Refusal}
 use Rattle.capture_load.specs.declared.capture.Refusal.TheVariants.{Pcap, Ng}
+use Rattle.capture_load.specs.declared.capture.LoadStop.{LoadStop}
+use Rattle.capture_load.specs.declared.capture.LoadStop.TheVariants.{ReadFault as SourceStop, Bad as BadStop, Ng as NgStop, NoMemory as MemoryStop}
 use Rattle.octo_run.specs.declared.faults.Fault.{Fault}
-use Rattle.octo_run.specs.declared.faults.Fault.TheVariants.{Usage as UsageFault, ReadFault as SourceFault, WriteFault as SinkFault, Bad as BadFault, NoMemory as MemoryFault}
+use Rattle.octo_run.specs.declared.faults.Fault.TheVariants.{Usage as UsageFault, ReadFault as SourceFault, WriteFault as SinkFault}
+use Rattle.octo_run.specs.declared.faults.Fault.TheVariants.{Bad as BadFault, BadLine as LineFault, NoMemory as MemoryFault, Differs as JournalFault}
 
 abbrev pub status_of_bad : Refusal → Status
 status_of_bad (Pcap TooManyRecords) = TooMany
@@ -26,7 +29,16 @@ status_of UsageFault = Usage
 status_of SourceFault = ReadFault
 status_of SinkFault = WriteFault
 status_of (BadFault bad) = status_of_bad bad
+status_of (LineFault line) = BadCapture
 status_of MemoryFault = NoMemory
+status_of (JournalFault line kept lawful) = Differs
+
+-- the fault with which a run ends where its capture wasn't loaded
+abbrev pub fault_of : LoadStop → Fault
+fault_of SourceStop = SourceFault
+fault_of (BadStop bad) = BadFault (Pcap bad)
+fault_of (NgStop bad) = BadFault (Ng bad)
+fault_of MemoryStop = MemoryFault
 
 -- a number in 8 lower-case hexadecimal digits
 unfoldable pub hex8 : ℕ → List ℕ
@@ -64,7 +76,10 @@ fault_text UsageFault = codes "octo: usage"
 fault_text SourceFault = codes "octo: read fault"
 fault_text SinkFault = codes "octo: write fault"
 fault_text (BadFault bad) = bad_text bad
+fault_text (LineFault line) = codes "octo: bad capture 12 line " ++ decimal line
 fault_text MemoryFault = codes "octo: no memory"
+fault_text (JournalFault line kept lawful) =
+    codes "octo: differs line " ++ decimal line ++ codes " kept " ++ kept ++ codes " lawful " ++ lawful
 
 -- one line is written; a fault of the sink cuts it, and changes nothing else
 unfoldable pub fault_line : Fault → List ℕ

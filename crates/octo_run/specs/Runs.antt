@@ -20,6 +20,8 @@ use Rattle.octo_text.specs.ReportText.{report_text}
 use Rattle.reports.specs.ReportOf.{IsReport}
 use Rattle.octo_run.specs.Networks.{IsPrefixText}
 use Rattle.octo_run.specs.Epochs.{IsEpochsText}
+use Rattle.octo_run.specs.Audits.{IsAuditText}
+use Rattle.octo_run.specs.Refusals.{Input, OfCapture, OfJournal}
 
 -- the text is the report of a capture: of its whole records, the bytes behind the last of them, its packets, and the one table that takes
 -- every packet. No worker has a part in it
@@ -44,21 +46,18 @@ pub record IsRunText (o : Options) (bytes text : List ℕ) : Type 0 where
   pub journal_is : IsJournalText o.journal o (packets_of o.amount frames) journal
   pub text_is : text ≡ report ++ journal
 
--- the commands that are carried out so far: all but `audit`, which is refused as words outside the grammar are
-abbrev pub IsServed : Command → Type 0
-IsServed (Run options) = Unit {0}
-IsServed (Load records start options) = Unit {0}
-IsServed (Prefix options watch) = Unit {0}
-IsServed (Epochs packets change options) = Unit {0}
-IsServed Audit = ⊥
-
 -- the text of a command, for the bytes that it reads
 abbrev pub HasText : Command → List ℕ → List ℕ → Type 0
 HasText (Run options) = IsRunText options
 HasText (Load records start options) = IsRunText options
 HasText (Prefix options watch) = IsPrefixText options watch.items
 HasText (Epochs packets change options) = IsEpochsText packets change options
-HasText Audit = λ bytes text. ⊥
+HasText Audit = IsAuditText
+
+-- what a command reads
+abbrev pub input_of : Command → Input
+input_of Audit = OfJournal
+input_of _ = OfCapture
 
 -- the bytes that a command reads: whatever the source gives, or all of the generated ones
 abbrev pub GivenFor : Command → Option (List ℕ) → Option (List ℕ) → (List ℕ → List ℕ → Type 0) → Type 0

@@ -5,6 +5,7 @@ ghost use Rattle.hash_rows.specs.declared.options.Mode.{Mode};
 ghost use Rattle.epoch_run.specs.Epochs.{IsEpochs, IsEpochsRun};
 ghost use Rattle.epoch_report.specs.EpochsText.{report_text};
 ghost use Rattle.octo_run.specs.Ends.{IsEnd, side};
+ghost use Rattle.octo_run.specs.Refusals.{OfCapture};
 ghost use Rattle.octo_run.specs.Epochs.{IsEpochsText};
 
 use crate::frame::perform;
@@ -84,7 +85,7 @@ pub fn octo_epochs_rounds<R: Threads + Sync, S: Source, T: Sink, E: Sink>(
 ) -> Status
     requires run { IsEpochsRun size change options.now }
     requires rounds { options.now.mode ≡ Mode.Rounds }
-    ensures ended { IsEnd (Given (S.left source.old) (S.left source.new)) (IsEpochsText size change options.now)
+    ensures ended { IsEnd OfCapture (Given (S.left source.old) (S.left source.new)) (IsEpochsText size change options.now)
         (side (S.left source.old) (S.faults source.old)) (side (S.left source.new) (S.faults source.new))
         (side (T.holds out.old) (T.faults out.old)) (side (T.holds out.new) (T.faults out.new))
         (side (E.holds err.old) (E.faults err.old)) (side (E.holds err.new) (E.faults err.new)) result }
@@ -120,7 +121,7 @@ pub fn octo_epochs_threads<R: Threads + Wait + Sync, S: Source, T: Sink, E: Sink
 ) -> Status
     requires run { IsEpochsRun size change options.now }
     requires threads { options.now.mode ≡ Mode.Threads }
-    ensures ended { IsEnd (Given (S.left source.old) (S.left source.new)) (IsEpochsText size change options.now)
+    ensures ended { IsEnd OfCapture (Given (S.left source.old) (S.left source.new)) (IsEpochsText size change options.now)
         (side (S.left source.old) (S.faults source.old)) (side (S.left source.new) (S.faults source.new))
         (side (T.holds out.old) (T.faults out.old)) (side (T.holds out.new) (T.faults out.new))
         (side (E.holds err.old) (E.faults err.old)) (side (E.holds err.new) (E.faults err.new)) result }

@@ -1,7 +1,10 @@
 ghost use Rattle.std.specs.Prelude.{◌≡◌, ℕ, List};
 ghost use Rattle.hash_rows.specs.declared.options.Mode.{Mode};
 ghost use Rattle.hash_rows.specs.declared.options.Options.{Options};
+ghost use Rattle.hash_rows.specs.declared.shape.Packet.{Packet};
+ghost use Rattle.push_history.specs.Journal.{Journal};
 ghost use Rattle.prefixes.specs.declared.network.Prefix.{Prefix};
+ghost use Rattle.octo_run.specs.Audits.{AreAudited, DiffersAt, IsAuditText};
 ghost use Rattle.octo_run.specs.Epochs.{IsEpochsText};
 ghost use Rattle.octo_run.specs.Networks.{IsPrefixText};
 ghost use Rattle.octo_run.specs.Runs.{IsRunText};
@@ -34,3 +37,10 @@ pub fn one_epochs_text()
 {
     epoch_report::one_report();
 }
+
+/// Bytes are one journal and the packets of one capture at most, and so don't have the line of a
+/// lawful journal and a difference as well. A law: it does nothing when it runs.
+pub fn one_audit()
+    ensures read { (bytes : List ℕ) (c d : Journal) (ps qs : List Packet) → AreAudited bytes c ps → AreAudited bytes d qs → (c ≡ d) × (ps ≡ qs) }
+    ensures verdict { (bytes text : List ℕ) (line : ℕ) (kept lawful : List ℕ) → IsAuditText bytes text → DiffersAt bytes line kept lawful → ⊥ }
+{}

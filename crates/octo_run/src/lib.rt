@@ -1,7 +1,9 @@
 //! A run of octo: from words and the bytes of a capture to a report and a journal, or to a report of
-//! source networks or of epochs, or to one line that says why there is none.
+//! source networks or of epochs, or from a journal and a capture to whether it is lawful, or to one
+//! line that says why there is none.
 #![tactic(auto)]
 
+mod audit;
 mod epochs;
 mod faults;
 mod frame;
@@ -14,10 +16,11 @@ mod run;
 mod task;
 mod threads;
 
+pub use audit::octo_audit;
 pub use capture_load::{Capture, GenSource, LoadStop, Refusal, load_capture};
 pub use epochs::{octo_epochs_rounds, octo_epochs_threads};
 pub use faults::Fault;
-pub use laws::{one_epochs_text, one_prefix_text, one_report, one_text};
+pub use laws::{one_audit, one_epochs_text, one_prefix_text, one_report, one_text};
 pub use lines::tell;
 pub use prefix::octo_prefix;
 pub use rounds::octo_rounds;

@@ -11,9 +11,9 @@ use pcapng_read::NgBad;
 
 /// Writes the fault's line, and answers its status. A fault of the sink is ignored.
 #[tactic(auto, unfolding(crate::specs::Faults::fault_line))]
-pub fn tell<E: Sink>(err: &mut E, fault: Fault) -> Status
-    ensures status { result ≡ status_of fault }
-    ensures line { TellsLine (E.holds err.old) (E.holds err.new) (E.faults err.old) (E.faults err.new) (fault_line fault) }
+pub fn tell<E: Sink>(err: &mut E, fault: &Fault) -> Status
+    ensures status { result ≡ status_of fault.now }
+    ensures line { TellsLine (E.holds err.old) (E.holds err.new) (E.faults err.old) (E.faults err.new) (fault_line fault.now) }
     ensures later { E.faults err.old ≤ E.faults err.new }
 {
     let mut line = Line::new();
@@ -23,17 +23,31 @@ pub fn tell<E: Sink>(err: &mut E, fault: Fault) -> Status
 }
 
 #[tactic(auto, unfolding(crate::specs::Faults::fault_text))]
-fn put_fault(line: &mut Line, fault: Fault)
+fn put_fault(line: &mut Line, fault: &Fault)
     requires { length line.old ≤ 0 }
-    ensures text { line.new ≡ line.old ++ fault_text fault }
+    ensures text { line.new ≡ line.old ++ fault_text fault.now }
     ensures room { length line.new ≤ 300 }
 {
     match fault {
         Fault::Usage => line.text(b"octo: usage"),
         Fault::ReadFault => line.text(b"octo: read fault"),
         Fault::WriteFault => line.text(b"octo: write fault"),
-        Fault::Bad(refusal) => put_bad(line, refusal),
+        Fault::Bad(refusal) => put_bad(line, *refusal),
+        Fault::BadLine { line: number } => {
+            line.named(b"octo: bad capture 12 line ", u64::from(*number));
+        }
         Fault::NoMemory => line.text(b"octo: no memory"),
+        Fault::Differs {
+            line: number,
+            kept,
+            lawful,
+        } => {
+            line.named(b"octo: differs line ", u64::from(*number));
+            line.text(b" kept ");
+            line.text(kept.as_bytes());
+            line.text(b" lawful ");
+            line.text(lawful.as_bytes());
+        }
     }
 }
 

@@ -6,6 +6,7 @@ ghost use Rattle.prefix_stack.specs.Runs.{IsStackRun};
 ghost use Rattle.prefix_report.specs.PrefixText.{report_text};
 ghost use Rattle.prefix_report.specs.Reports.{IsComplete};
 ghost use Rattle.octo_run.specs.Ends.{IsEnd, side};
+ghost use Rattle.octo_run.specs.Refusals.{OfCapture};
 ghost use Rattle.octo_run.specs.Networks.{IsPrefixText};
 
 use crate::frame::perform;
@@ -78,7 +79,7 @@ pub fn octo_prefix<R: Threads + Sync, S: Source, T: Sink, E: Sink>(
 ) -> Status
     requires options { IsStackRun options.now }
     requires watch { AreWatched watch.now }
-    ensures ended { IsEnd (Given (S.left source.old) (S.left source.new)) (IsPrefixText options.now watch.now)
+    ensures ended { IsEnd OfCapture (Given (S.left source.old) (S.left source.new)) (IsPrefixText options.now watch.now)
         (side (S.left source.old) (S.faults source.old)) (side (S.left source.new) (S.faults source.new))
         (side (T.holds out.old) (T.faults out.old)) (side (T.holds out.new) (T.faults out.new))
         (side (E.holds err.old) (E.faults err.old)) (side (E.holds err.new) (E.faults err.new)) result }

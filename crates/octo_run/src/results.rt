@@ -4,19 +4,20 @@ ghost use Rattle.flow_base.specs.Writing.{Writes};
 ghost use Rattle.hash_rows.specs.Lawful.{IsLawful};
 ghost use Rattle.hash_rows.specs.declared.options.Mode.{Mode};
 ghost use Rattle.hash_rows.specs.Sequential.{sequential_table};
-ghost use Rattle.push_history.specs.Journal.{journal_in};
+ghost use Rattle.push_history.specs.Journal.{journal_of_lists};
 ghost use Rattle.push_history.specs.LawfulJournal.{LawfulJournal};
-ghost use Rattle.round_law.specs.Outcome.{IsWhole};
+ghost use Rattle.round_law.specs.Outcome.{IsWholeRun};
 ghost use Rattle.octo_run.specs.Results.{HasResults, IsComplete, results_text};
 
 use capture_load::Capture;
 use count_min::CountMin;
 use count_sketch::CountSketch;
 use flow_base::{Failed, NoMemory, Sink};
-use hash_rows::{Answers, BitRows, Counts, Keys, Kind, Options, Sketch};
+use hash_rows::{Kind, Options, Sketch};
 use loglog_regs::LogLog;
 use octo_engine::{Settled, run_rounds};
 use octo_text::{Report, write_journal_in, write_report};
+use push_history::RunLists;
 use reports::report_of;
 use std::alloc::Global;
 use std::thread::Threads;
@@ -25,11 +26,7 @@ use std::thread::Threads;
 #[derive(Drop)]
 pub struct Results {
     pub report: Report,
-    pub refused: BitRows,
-    pub pushes: Counts,
-    pub answers: Answers,
-    pub live: Keys,
-    pub missed: u64,
+    pub lists: RunLists,
 }
 
 /// Counts the packets of a capture in rounds.
@@ -80,9 +77,8 @@ pub fn results_from<K: Kind>(
     requires sketch { options.now.sketch ≡ K.sketch }
     requires packets { length capture.now.packets.items ≤ 16777216 }
     requires table { settled.table ≡ sequential_table K.rules options.now.shape capture.now.packets.items }
-    requires journal { LawfulJournal capture.now.packets.items options.now
-        (journal_in options.now settled.refused.items settled.pushes.items settled.answers.items settled.live.items settled.missed) }
-    requires whole { IsWhole options.now settled.refused.items settled.pushes.items settled.answers.items }
+    requires journal { LawfulJournal capture.now.packets.items options.now (journal_of_lists options.now settled.lists) }
+    requires whole { IsWholeRun options.now settled.lists }
     ensures results { IfOk result (HasResults capture.now options.now) }
     ensures complete { IfOk result (IsComplete options.now) }
 {
@@ -97,11 +93,7 @@ pub fn results_from<K: Kind>(
     )?;
     Ok(Results {
         report,
-        refused: settled.refused,
-        pushes: settled.pushes,
-        answers: settled.answers,
-        live: settled.live,
-        missed: settled.missed,
+        lists: settled.lists,
     })
 }
 
@@ -120,13 +112,5 @@ pub fn write_results<T: Sink>(
     if !options.journal {
         return Ok(());
     }
-    write_journal_in(
-        out,
-        options,
-        &results.refused,
-        &results.pushes,
-        &results.answers,
-        &results.live,
-        results.missed,
-    )
+    write_journal_in(out, options, &results.lists)
 }

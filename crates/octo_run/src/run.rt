@@ -1,19 +1,20 @@
-ghost use Rattle.std.specs.Prelude.{◌≡◌, ◌≢◌, ◌≤◌, ◌⊎◌, ℕ, List, string_bytes, map, true, false};
+ghost use Rattle.std.specs.Prelude.{◌≡◌, ◌≢◌, ◌⊎◌, ℕ, List, [], string_bytes, map};
 ghost use Rattle.flow_base.specs.Causes.{Rose};
 ghost use Rattle.flow_base.specs.Flow.{Given, behind};
 ghost use Rattle.hash_rows.specs.Lawful.{IsLawful};
 ghost use Rattle.epoch_run.specs.Epochs.{IsEpochsRun};
-ghost use Rattle.capture_load.specs.Loads.{HoldsRefusal};
-ghost use Rattle.octo_run.specs.Ends.{CutShort, IsAccepted, IsEnd, IsTold, IsUnrefused, Reported, side};
+ghost use Rattle.octo_run.specs.Audits.{DiffersAt};
+ghost use Rattle.octo_run.specs.Ends.{CutShort, IsEnd, IsTold, Reported, side};
 ghost use Rattle.octo_run.specs.Epochs.{IsEpochsText};
-ghost use Rattle.octo_run.specs.Faults.{TellsLine, fault_line, status_of_bad};
-ghost use Rattle.octo_run.specs.Runs.{GivenFor, HasText, IsRunText, IsServed, Leaves, Spares};
+ghost use Rattle.octo_run.specs.Faults.{TellsLine, fault_line, status_of};
+ghost use Rattle.octo_run.specs.Refusals.{IsAccepted, IsRefusal, IsUnrefused, OfCapture, Refuses};
+ghost use Rattle.octo_run.specs.Runs.{GivenFor, HasText, IsRunText, Leaves, Spares, input_of};
 ghost use Rattle.octo_run.specs.declared.faults.Fault.{Fault};
-ghost use Rattle.capture_load.specs.declared.capture.Refusal.{Refusal};
 ghost use Rattle.hash_rows.specs.declared.options.Options.{Options};
 ghost use Rattle.words.specs.Options.{Gives, IsLawfulCommand};
 ghost use Rattle.words.specs.declared.command.Command.{Command};
 
+use crate::audit::octo_audit;
 use crate::epochs::{octo_epochs_rounds, octo_epochs_threads};
 use crate::faults::Fault;
 use crate::lines::tell;
@@ -40,7 +41,7 @@ fn run_in_mode<R: Threads + Wait + Sync, S: Source, T: Sink, E: Sink, G: Gate>(
     gate: &G,
 ) -> Status
     requires { IsLawful options.now }
-    ensures ended { IsEnd (Given (S.left source.old) (S.left source.new)) (IsRunText options.now)
+    ensures ended { IsEnd OfCapture (Given (S.left source.old) (S.left source.new)) (IsRunText options.now)
         (side (S.left source.old) (S.faults source.old)) (side (S.left source.new) (S.faults source.new))
         (side (T.holds out.old) (T.faults out.old)) (side (T.holds out.new) (T.faults out.new))
         (side (E.holds err.old) (E.faults err.old)) (side (E.holds err.new) (E.faults err.new)) result }
@@ -67,7 +68,7 @@ fn epochs_in_mode<R: Threads + Wait + Sync, S: Source, T: Sink, E: Sink, G: Gate
     gate: &G,
 ) -> Status
     requires { IsEpochsRun size change options.now }
-    ensures ended { IsEnd (Given (S.left source.old) (S.left source.new)) (IsEpochsText size change options.now)
+    ensures ended { IsEnd OfCapture (Given (S.left source.old) (S.left source.new)) (IsEpochsText size change options.now)
         (side (S.left source.old) (S.faults source.old)) (side (S.left source.new) (S.faults source.new))
         (side (T.holds out.old) (T.faults out.old)) (side (T.holds out.new) (T.faults out.new))
         (side (E.holds err.old) (E.faults err.old)) (side (E.holds err.new) (E.faults err.new)) result }
@@ -93,9 +94,8 @@ fn carry_out<R: Threads + Wait + Sync, S: Source, T: Sink, E: Sink, G: Gate>(
     err: &mut E,
     gate: &G,
 ) -> Status
-    requires lawful { IsLawfulCommand command }
-    requires served { IsServed command }
-    ensures ended { IsEnd (GivenFor command (S.left source.old) (S.left source.new)) (HasText command)
+    requires { IsLawfulCommand command }
+    ensures ended { IsEnd (input_of command) (GivenFor command (S.left source.old) (S.left source.new)) (HasText command)
         (side (S.left source.old) (S.faults source.old)) (side (S.left source.new) (S.faults source.new))
         (side (T.holds out.old) (T.faults out.old)) (side (T.holds out.new) (T.faults out.new))
         (side (E.holds err.old) (E.faults err.old)) (side (E.holds err.new) (E.faults err.new)) result }
@@ -123,18 +123,7 @@ fn carry_out<R: Threads + Wait + Sync, S: Source, T: Sink, E: Sink, G: Gate>(
             change,
             options,
         } => epochs_in_mode(rt, alloc, packets, change, &options, source, out, err, gate),
-        Command::Audit => tell(err, Fault::Usage),
-    }
-}
-
-// Whether the command is carried out so far.
-fn is_served(command: &Command) -> bool
-    ensures yes { result ≡ true → IsServed command.now }
-    ensures no { result ≡ false → IsServed command.now → ⊥ }
-{
-    match command {
-        Command::Audit => false,
-        _ => true,
+        Command::Audit => octo_audit(alloc, source, out, err),
     }
 }
 
@@ -150,9 +139,9 @@ pub fn octo<R: Threads + Wait + Sync, S: Source, T: Sink, E: Sink, G: Gate>(
     err: &mut E,
     gate: &G,
 ) -> Status
-    // Usage, exactly where the words give no command that is carried out. Nothing is read.
-    ensures usage { result ≡ Status.Usage → (command : Command) → Gives (map string_bytes words.now) command → IsServed command → ⊥ }
-    ensures grammar { ((command : Command) → Gives (map string_bytes words.now) command → IsServed command → ⊥)
+    // Usage, exactly where the words give no command. Nothing is read.
+    ensures usage { result ≡ Status.Usage → (command : Command) → Gives (map string_bytes words.now) command → ⊥ }
+    ensures grammar { ((command : Command) → Gives (map string_bytes words.now) command → ⊥)
         → (result ≡ Status.Usage) ⊎ (result ≡ Status.NoMemory) }
     ensures unread { result ≡ Status.Usage → (source.new ≡ source.old) × (out.new ≡ out.old) }
     ensures front { (given : List ℕ) × (S.left source.old ≡ behind given (S.left source.new)) }
@@ -160,18 +149,26 @@ pub fn octo<R: Threads + Wait + Sync, S: Source, T: Sink, E: Sink, G: Gate>(
         → GivenFor command (S.left source.old) (S.left source.new) (Reported (HasText command) (T.holds out.old) (T.holds out.new)) }
     ensures read { result ≡ Status.ReadFault → Rose (S.faults source.old) (S.faults source.new) }
     ensures unrefused { result ≡ Status.ReadFault → (command : Command) → Gives (map string_bytes words.now) command
-        → GivenFor command (S.left source.old) (S.left source.new) IsUnrefused }
+        → GivenFor command (S.left source.old) (S.left source.new) (IsUnrefused (input_of command)) }
     ensures write { result ≡ Status.WriteFault → Rose (T.faults out.old) (T.faults out.new) }
     ensures cut { result ≡ Status.WriteFault → (command : Command) → Gives (map string_bytes words.now) command
         → GivenFor command (S.left source.old) (S.left source.new) (CutShort (HasText command) (T.holds out.old) (T.holds out.new)) }
-    // A capture is refused exactly by what stands first in its bytes.
+    // A capture, and with `audit` a journal before it, is refused exactly by what stands first in the
+    // bytes.
     ensures bad { (result ≡ Status.BadCapture) ⊎ (result ≡ Status.TooMany)
-        → (command : Command) → Gives (map string_bytes words.now) command → (bad : Refusal) × (result ≡ status_of_bad bad)
-        × GivenFor command (S.left source.old) (S.left source.new) (λ given rest. HoldsRefusal given rest bad)
-        × TellsLine (E.holds err.old) (E.holds err.new) (E.faults err.old) (E.faults err.new) (fault_line (Fault.Bad bad)) }
-    ensures accepted { (result ≡ Status.Done) ⊎ (result ≡ Status.WriteFault)
         → (command : Command) → Gives (map string_bytes words.now) command
-        → GivenFor command (S.left source.old) (S.left source.new) IsAccepted }
+        → (fault : Fault) × IsRefusal (input_of command) fault × (result ≡ status_of fault)
+        × GivenFor command (S.left source.old) (S.left source.new) (λ given rest. Refuses (input_of command) given rest fault)
+        × TellsLine (E.holds err.old) (E.holds err.new) (E.faults err.old) (E.faults err.new) (fault_line fault) }
+    // With `audit` alone: all bytes were read, and the line on `err` has the first line of the journal
+    // that fails, and both its words.
+    ensures differs { result ≡ Status.Differs → (command : Command) → Gives (map string_bytes words.now) command
+        → (command ≡ Command.Audit) × (line : ℕ) × (kept : List ℕ) × (lawful : List ℕ)
+        × Given (S.left source.old) (S.left source.new) (λ given rest. (rest ≡ []) × DiffersAt given line kept lawful)
+        × TellsLine (E.holds err.old) (E.holds err.new) (E.faults err.old) (E.faults err.new) (fault_line (Fault.Differs line kept lawful)) }
+    ensures accepted { (result ≡ Status.Done) ⊎ ((result ≡ Status.WriteFault) ⊎ (result ≡ Status.Differs))
+        → (command : Command) → Gives (map string_bytes words.now) command
+        → GivenFor command (S.left source.old) (S.left source.new) (IsAccepted (input_of command)) }
     ensures told { result ≢ Status.Done
         → IsTold (side (E.holds err.old) (E.faults err.old)) (side (E.holds err.new) (E.faults err.new)) result }
     ensures quiet { result ≡ Status.Done → err.new ≡ err.old }
@@ -180,16 +177,10 @@ pub fn octo<R: Threads + Wait + Sync, S: Source, T: Sink, E: Sink, G: Gate>(
         → source.new ≡ source.old }
     ensures unfailed { (records start : ℕ) (o : Options) → Gives (map string_bytes words.now) (Command.Load records start o)
         → result ≢ Status.ReadFault }
-    ensures never { result ≢ Status.Differs }
 {
     match read_words(alloc, words) {
-        Err(WordStop::Usage) => tell(err, Fault::Usage),
-        Err(WordStop::NoMemory) => tell(err, Fault::NoMemory),
-        Ok(command) => {
-            if !is_served(&command) {
-                return tell(err, Fault::Usage);
-            }
-            carry_out(rt, alloc, command, source, out, err, gate)
-        }
+        Err(WordStop::Usage) => tell(err, &Fault::Usage),
+        Err(WordStop::NoMemory) => tell(err, &Fault::NoMemory),
+        Ok(command) => carry_out(rt, alloc, command, source, out, err, gate),
     }
 }

@@ -4,6 +4,7 @@ ghost use Rattle.flow_base.specs.Flow.{Given, behind};
 ghost use Rattle.hash_rows.specs.Lawful.{IsLawful};
 ghost use Rattle.hash_rows.specs.declared.options.Mode.{Mode};
 ghost use Rattle.octo_run.specs.Ends.{IsEnd, side};
+ghost use Rattle.octo_run.specs.Refusals.{OfCapture};
 ghost use Rattle.octo_run.specs.Results.{HasResults, IsComplete, results_text};
 ghost use Rattle.octo_run.specs.Runs.{IsRunText};
 
@@ -116,7 +117,7 @@ pub fn octo_threads<R: Threads + Wait + Sync, S: Source, T: Sink, E: Sink, G: Ga
 ) -> Status
     requires lawful { IsLawful options.now }
     requires threads { options.now.mode ≡ Mode.Threads }
-    ensures ended { IsEnd (Given (S.left source.old) (S.left source.new)) (IsRunText options.now)
+    ensures ended { IsEnd OfCapture (Given (S.left source.old) (S.left source.new)) (IsRunText options.now)
         (side (S.left source.old) (S.faults source.old)) (side (S.left source.new) (S.faults source.new))
         (side (T.holds out.old) (T.faults out.old)) (side (T.holds out.new) (T.faults out.new))
         (side (E.holds err.old) (E.faults err.old)) (side (E.holds err.new) (E.faults err.new)) result }

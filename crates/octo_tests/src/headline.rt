@@ -5,6 +5,7 @@ ghost use Rattle.hash_rows.specs.declared.options.Options.{Options};
 ghost use Rattle.flow_base.specs.declared.status.Status.{Status};
 ghost use Rattle.listed.specs.Listed.{Listed};
 ghost use Rattle.prefixes.specs.declared.network.Prefix.{Prefix};
+ghost use Rattle.octo_run.specs.Audits.{IsAuditText};
 ghost use Rattle.octo_run.specs.Epochs.{IsEpochsText};
 ghost use Rattle.octo_run.specs.Networks.{IsPrefixText};
 ghost use Rattle.octo_run.specs.Runs.{IsRunText};
@@ -19,7 +20,8 @@ use std::thread::Threads;
 
 /// What the top call's contract alone says to a caller whose source and output tell their bytes:
 /// where the run is done, the output is what it was and, behind it, the one text of these bytes or,
-/// with `load`, of the generated ones.
+/// with `load`, of the generated ones. With `audit` these bytes are then a lawful journal and its
+/// capture.
 pub fn whole_run<R: Threads + Wait + Sync>(
     rt: &R,
     alloc: Global,
@@ -40,6 +42,8 @@ pub fn whole_run<R: Threads + Wait + Sync>(
     ensures epochs { IfOk result (λ status. status ≡ Status.Done
         → (size change : ℕ) (o : Options) → Gives (map string_bytes words.now) (Command.Epochs size change o)
         → (text : List ℕ) → IsEpochsText size change o bytes.now text → out.new.held ≡ out.old.held ++ text) }
+    ensures audit { IfOk result (λ status. status ≡ Status.Done → Gives (map string_bytes words.now) Command.Audit
+        → (text : List ℕ) × IsAuditText bytes.now text × (out.new.held ≡ out.old.held ++ text)) }
 {
     one_text();
     one_prefix_text();

@@ -6,6 +6,8 @@ mod headline;
 pub use headline::whole_run;
 
 #[cfg(test)]
+mod audits;
+#[cfg(test)]
 mod bytes;
 #[cfg(test)]
 mod captures;

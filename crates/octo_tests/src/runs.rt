@@ -59,9 +59,21 @@ pub fn run_gated<R: Threads + Wait + Sync, G: Gate>(
     gate: &G,
 ) -> Result<Ended, Fail> {
     let bytes = capture(alloc, bytes)?;
+    run_on(rt, alloc, line, bytes.as_slice(), ways, gate)
+}
+
+/// The same on bytes that are given.
+pub fn run_on<R: Threads + Wait + Sync, G: Gate>(
+    rt: &R,
+    alloc: Global,
+    line: &str,
+    bytes: &[u8],
+    ways: Ways,
+    gate: &G,
+) -> Result<Ended, Fail> {
     let words = words_of(alloc, line)?;
     let piece = ways.piece.max(1);
-    let mut source = MemSource::new(alloc, bytes.as_slice(), piece, ways.failing_reads)?;
+    let mut source = MemSource::new(alloc, bytes, piece, ways.failing_reads)?;
     let at_a_time = ways.at_a_time.max(1);
     let mut out = MemSink::in_pieces(alloc, ways.room, at_a_time, ways.failing_writes)?;
     let mut err = MemSink::new(alloc, 65536, ways.failing_lines)?;
@@ -113,8 +125,8 @@ fn case_of(text: &str) -> Option<Case<'_>> {
     })
 }
 
-// The status and the line on the error output, as a case tells them.
-fn end_of(alloc: Global, end: &Ended) -> Result<String, Fail> {
+/// The status and the line on the error output, as a case tells them.
+pub fn end_of(alloc: Global, end: &Ended) -> Result<String, Fail> {
     let code = end.status.code();
     let line = str::from_utf8(end.err.held())?;
     if line.is_empty() {

@@ -1,6 +1,7 @@
 use Rattle.std.proofs.Common.{Bool, ap, sym}
 use Rattle.flow_base.proofs.WritingLemmas.{writes_front, writes_then, stop}
-use Rattle.octo_run.specs.Results.{asked_text, journal_of, results_text}
+use Rattle.push_history.specs.Journal.{journal_of_lists}
+use Rattle.octo_run.specs.Results.{asked_text, results_text}
 use Rattle.octo_run.proofs.results.write_results.Goals as goal
 
 pub returns-in_err-write_report-clause-writes : goal.returns-in_err-write_report-clause-writes
@@ -11,5 +12,5 @@ returns-in_err-write_report-clause-writes g c =
 pub returns-clause-writes : goal.returns-clause-writes
 unfolding results_text
 returns-clause-writes g c =
-    let text = ap (λ (b : Bool). asked_text b (journal_of c.args.options.now c.args.results.now)) c.if-not-options.false in
+    let text = ap (λ (b : Bool). asked_text b (journal_of_lists c.args.options.now c.args.results.now.lists)) c.if-not-options.false in
     writes_then c.write_journal_in.result c.in_ok-write_report.ensures.writes (rw (sym text) at c.write_journal_in.ensures.writes)

@@ -1,8 +1,9 @@
 use Rattle.std.proofs.Common.{sym, subst}
+use Rattle.octo_run.specs.Refusals.{OfCapture}
 use Rattle.octo_run.specs.Runs.{Spares}
-use Rattle.octo_run.proofs.Ends.{at_command, load_end, no_rise}
+use Rattle.octo_run.proofs.Ends.{at_command, load_end, no_rise, rose}
 use Rattle.words.specs.declared.command.Command.{Command}
-use Rattle.words.specs.declared.command.Command.TheVariants.{Run, Load, Prefix, Epochs}
+use Rattle.words.specs.declared.command.Command.TheVariants.{Run, Load, Prefix, Epochs, Audit}
 use Rattle.octo_run.proofs.run.carry_out.Goals as goal
 
 pub returns-in-Run-clause-ended : goal.returns-in-Run-clause-ended
@@ -17,7 +18,7 @@ returns-in-Load-clause-ended g c =
 
 pub returns-in-Load-clause-spared : goal.returns-in-Load-clause-spared
 returns-in-Load-clause-spared g c =
-    subst (λ (k : Command). Spares k c.run_in_mode-in-Load.result) (sym c.in-Load.is) (λ is. no_rise (c.run_in_mode-in-Load.ensures.ended.read is))
+    subst (λ (k : Command). Spares k c.run_in_mode-in-Load.result) (sym c.in-Load.is) (λ is. no_rise (rose OfCapture _ _ _ _ _ _ _ _ _ c.run_in_mode-in-Load.ensures.ended is))
 
 pub returns-in-Prefix-clause-ended : goal.returns-in-Prefix-clause-ended
 returns-in-Prefix-clause-ended g c =
@@ -29,3 +30,7 @@ returns-in-Epochs-clause-ended g c =
     let k = c.in-Epochs in
     at_command c.args.command (Epochs k.packets k.change k.options) (g.S.Source.left c.args.source.now) (g.S.Source.left c.epochs_in_mode.new.source) _ _ _ _ _ _ _ k.is
     c.epochs_in_mode.ensures.ended
+
+pub returns-in-Audit-clause-ended : goal.returns-in-Audit-clause-ended
+returns-in-Audit-clause-ended g c =
+    at_command c.args.command Audit (g.S.Source.left c.args.source.now) (g.S.Source.left c.octo_audit.new.source) _ _ _ _ _ _ _ c.in-Audit.is c.octo_audit.ensures.ended

@@ -1,48 +1,75 @@
-use Rattle.std.proofs.Common.{rules, subst}
+use Rattle.std.proofs.Common.{◌≡◌, sym, subst, List, ℕ}
+use Rattle.flow_base.specs.Flow.{Given}
 use Rattle.words.specs.declared.command.Command.{Command}
-use Rattle.words.specs.declared.command.Command.TheVariants.{Load}
-use Rattle.capture_load.specs.Loads.{HoldsRefusal}
-use Rattle.octo_run.specs.Ends.{CutShort, IsAccepted, IsUnrefused, Reported}
-use Rattle.octo_run.specs.Runs.{GivenFor, HasText, Leaves, Spares}
+use Rattle.words.specs.declared.command.Command.TheVariants.{Load, Audit}
+use Rattle.octo_run.specs.Refusals.{IsDifference, OfJournal}
+use Rattle.octo_run.specs.Runs.{GivenFor, Leaves, Spares, input_of}
+use Rattle.octo_run.proofs.Ends.{accepted, at_command, cut, differs, journal_command, no_usage, refused, risen, rose, told, unrefused}
 use Rattle.octo_run.proofs.run.octo.Goals as goal
 
-pub carry_out-requires : goal.carry_out-requires
-carry_out-requires g c = (search rules, (search rules, (c.in-Ok.ensures.lawful, search rules)))
+pub returns-in-Ok-clause-usage : goal.returns-in-Ok-clause-usage
+returns-in-Ok-clause-usage g c = λ is. absurd (no_usage _ _ _ _ _ _ _ _ _ _ c.carry_out.ensures.ended is)
 
-pub returns-else-not-is_served-clause-done : goal.returns-else-not-is_served-clause-done
-returns-else-not-is_served-clause-done g c = λ is command gives.
-    subst (λ (k : Command). GivenFor k (g.S.Source.left c.args.source.now) (g.S.Source.left c.carry_out.new.source) (Reported (HasText k) (g.T.Sink.holds c.args.out.now) (g.T.Sink.holds c.carry_out.new.out)))
-    (c.in-Ok.ensures.once command gives) (c.carry_out.ensures.ended.done is)
+pub returns-in-Ok-clause-unread : goal.returns-in-Ok-clause-unread
+returns-in-Ok-clause-unread g c = λ is. absurd (no_usage _ _ _ _ _ _ _ _ _ _ c.carry_out.ensures.ended is)
 
-pub returns-else-not-is_served-clause-unrefused : goal.returns-else-not-is_served-clause-unrefused
-returns-else-not-is_served-clause-unrefused g c = λ is command gives.
-    subst (λ (k : Command). GivenFor k (g.S.Source.left c.args.source.now) (g.S.Source.left c.carry_out.new.source) IsUnrefused)
-    (c.in-Ok.ensures.once command gives) (c.carry_out.ensures.ended.unrefused is)
+pub returns-in-Ok-clause-read : goal.returns-in-Ok-clause-read
+returns-in-Ok-clause-read g c = rose _ _ _ _ _ _ _ _ _ _ c.carry_out.ensures.ended
 
-pub returns-else-not-is_served-clause-cut : goal.returns-else-not-is_served-clause-cut
-returns-else-not-is_served-clause-cut g c = λ is command gives.
-    subst (λ (k : Command). GivenFor k (g.S.Source.left c.args.source.now) (g.S.Source.left c.carry_out.new.source) (CutShort (HasText k) (g.T.Sink.holds c.args.out.now) (g.T.Sink.holds c.carry_out.new.out)))
-    (c.in-Ok.ensures.once command gives) (c.carry_out.ensures.ended.cut is)
+pub returns-in-Ok-clause-write : goal.returns-in-Ok-clause-write
+returns-in-Ok-clause-write g c = risen _ _ _ _ _ _ _ _ _ _ c.carry_out.ensures.ended
 
-pub returns-else-not-is_served-clause-bad : goal.returns-else-not-is_served-clause-bad
-returns-else-not-is_served-clause-bad g c = λ either command gives.
-    let bad = c.carry_out.ensures.ended.bad either in (
-      bad.0,
-      bad.1,
-      subst (λ (k : Command). GivenFor k (g.S.Source.left c.args.source.now) (g.S.Source.left c.carry_out.new.source) (λ given rest. HoldsRefusal given rest bad.0))
-          (c.in-Ok.ensures.once command gives) bad.2,
-      bad.3,
+pub returns-in-Ok-clause-told : goal.returns-in-Ok-clause-told
+returns-in-Ok-clause-told g c = told _ _ _ _ _ _ _ _ _ _ c.carry_out.ensures.ended
+
+pub returns-in-Ok-clause-unrefused : goal.returns-in-Ok-clause-unrefused
+returns-in-Ok-clause-unrefused g c = λ is command gives.
+    let end = at_command command c.in-Ok.command (g.S.Source.left c.args.source.now) (g.S.Source.left c.carry_out.new.source) _ _ _ _ _ _ _
+    (sym (c.in-Ok.ensures.once command gives)) c.carry_out.ensures.ended in
+    unrefused _ _ _ _ _ _ _ _ _ _ end is
+
+pub returns-in-Ok-clause-cut : goal.returns-in-Ok-clause-cut
+returns-in-Ok-clause-cut g c = λ is command gives.
+    let end = at_command command c.in-Ok.command (g.S.Source.left c.args.source.now) (g.S.Source.left c.carry_out.new.source) _ _ _ _ _ _ _
+    (sym (c.in-Ok.ensures.once command gives)) c.carry_out.ensures.ended in
+    cut _ _ _ _ _ _ _ _ _ _ end is
+
+pub returns-in-Ok-clause-bad : goal.returns-in-Ok-clause-bad
+returns-in-Ok-clause-bad g c = λ either command gives.
+    let end = at_command command c.in-Ok.command (g.S.Source.left c.args.source.now) (g.S.Source.left c.carry_out.new.source) _ _ _ _ _ _ _
+    (sym (c.in-Ok.ensures.once command gives)) c.carry_out.ensures.ended in
+    refused _ _ _ _ _ _ _ _ _ _ end either
+
+pub returns-in-Ok-clause-accepted : goal.returns-in-Ok-clause-accepted
+returns-in-Ok-clause-accepted g c = λ either command gives.
+    let end = at_command command c.in-Ok.command (g.S.Source.left c.args.source.now) (g.S.Source.left c.carry_out.new.source) _ _ _ _ _ _ _
+    (sym (c.in-Ok.ensures.once command gives)) c.carry_out.ensures.ended in
+    accepted _ _ _ _ _ _ _ _ _ _ end either
+
+pub returns-in-Ok-clause-done : goal.returns-in-Ok-clause-done
+returns-in-Ok-clause-done g c = λ is command gives.
+    let end = at_command command c.in-Ok.command (g.S.Source.left c.args.source.now) (g.S.Source.left c.carry_out.new.source) _ _ _ _ _ _ _
+    (sym (c.in-Ok.ensures.once command gives)) c.carry_out.ensures.ended in
+    (end.done is).0
+
+pub returns-in-Ok-clause-differs : goal.returns-in-Ok-clause-differs
+returns-in-Ok-clause-differs g c = λ is command gives.
+    let end = at_command command c.in-Ok.command (g.S.Source.left c.args.source.now) (g.S.Source.left c.carry_out.new.source) _ _ _ _ _ _ _
+    (sym (c.in-Ok.ensures.once command gives)) c.carry_out.ensures.ended in
+    let d = differs _ _ _ _ _ _ _ _ _ _ end is in
+    let audit = journal_command command d.0 in (
+      audit,
+      d.1,
+      d.2,
+      d.3,
+      subst (λ (k : Command). GivenFor k (g.S.Source.left c.args.source.now) (g.S.Source.left c.carry_out.new.source) (IsDifference (input_of k) d.1 d.2 d.3)) audit d.4,
+      d.6,
     )
 
-pub returns-else-not-is_served-clause-accepted : goal.returns-else-not-is_served-clause-accepted
-returns-else-not-is_served-clause-accepted g c = λ either command gives.
-    subst (λ (k : Command). GivenFor k (g.S.Source.left c.args.source.now) (g.S.Source.left c.carry_out.new.source) IsAccepted)
-    (c.in-Ok.ensures.once command gives) (c.carry_out.ensures.ended.accepted either)
-
-pub returns-else-not-is_served-clause-generated : goal.returns-else-not-is_served-clause-generated
-returns-else-not-is_served-clause-generated g c = λ records start o gives.
+pub returns-in-Ok-clause-generated : goal.returns-in-Ok-clause-generated
+returns-in-Ok-clause-generated g c = λ records start o gives.
     subst (λ (k : Command). Leaves k c.args.source.now c.carry_out.new.source) (c.in-Ok.ensures.once (Load records start o) gives) c.carry_out.ensures.left
 
-pub returns-else-not-is_served-clause-unfailed : goal.returns-else-not-is_served-clause-unfailed
-returns-else-not-is_served-clause-unfailed g c = λ records start o gives.
+pub returns-in-Ok-clause-unfailed : goal.returns-in-Ok-clause-unfailed
+returns-in-Ok-clause-unfailed g c = λ records start o gives.
     subst (λ (k : Command). Spares k c.carry_out.result) (c.in-Ok.ensures.once (Load records start o) gives) c.carry_out.ensures.spared
