@@ -12,7 +12,7 @@ use Rattle.push_history.proofs.Lists.{filter_push_no, filter_push_yes}
 use Rattle.push_lane.specs.Views.{LaneView, OutView}
 use Rattle.live_state.specs.Fold.{fits}
 use Rattle.live_state.specs.declared.layout.Layout.{Layout}
-use Rattle.aggregate.specs.Takens.{AreEnds, AreNamed, AreTaken, takens, taken_at}
+use Rattle.aggregate.specs.Takens.{ArePassesOf, AreNamed, AreTaken, takens, taken_at}
 
 -- the lists with one message more at the place
 abbrev pub with_one : List (List Push) → ℕ → Push → List (List Push)

@@ -11,7 +11,7 @@ use Rattle.live_state.specs.Fold.{fits}
 use Rattle.live_view.specs.Views.{WriterView}
 use Rattle.live_state.specs.declared.layout.Layout.{Layout}
 use Rattle.aggregate.specs.Sweeps.{HasTaken, KeepsPair, AggregatorView, kept_by, listed_held}
-use Rattle.aggregate.specs.Takens.{AreEnds, AreTaken, takens}
+use Rattle.aggregate.specs.Takens.{ArePassesOf, AreTaken, takens}
 use Rattle.aggregate.proofs.Grown.{taken_more, with_one}
 
 pub same_self : (s : AggregatorView) → KeepsPair s s
@@ -40,7 +40,7 @@ module _ (lanes : List LaneView) (outs : List OutView) (place : ℕ) (old new : 
   old_at : (d : OutView) → get_or outs place d ≡ old
   old_at d = get_or_from_slice_get outs place old d at
 
-  pub ends_stay : AreEnds lanes outs → new.id ≡ old.id → AreEnds lanes (set outs place new)
+  pub ends_stay : ArePassesOf lanes outs → new.id ≡ old.id → ArePassesOf lanes (set outs place new)
   ends_stay ends same = map-set_same (λ (o : OutView). o.id) outs place new old (same ∙ ap (λ (o : OutView). o.id) (sym (old_at old))) ∙ ends
 
   taken_old : get_or (takens outs) place [] ≡ old.taken
@@ -69,7 +69,7 @@ has_taken_same r a b layout outs kept was =
     (subst (AreTaken r a.writer.layout (takens a.outs)) (sym kept) was))
 
 -- the pass at a place is one of the lane there
-pub tied : (lanes : List LaneView) (outs : List OutView) (place : ℕ) (lane : LaneView) (out : OutView) → AreEnds lanes outs → place < length lanes → lane ≡ get_or lanes place lane
+pub tied : (lanes : List LaneView) (outs : List OutView) (place : ℕ) (lane : LaneView) (out : OutView) → ArePassesOf lanes outs → place < length lanes → lane ≡ get_or lanes place lane
     → slice_get outs place ≡ Some out → out.id ≡ lane.id
 tied lanes outs place lane out ends inside on at =
     sym (ap (λ (o : OutView). o.id) (get_or_from_slice_get outs place out out at))
@@ -78,10 +78,10 @@ tied lanes outs place lane out ends inside on at =
     ∙ get_or-map (λ (l : LaneView). l.id) lanes place lane out.id inside
     ∙ ap (λ (l : LaneView). l.id) (sym on)
 
-pub ends_len : (lanes : List LaneView) (outs : List OutView) → AreEnds lanes outs → length outs ≡ length lanes
+pub ends_len : (lanes : List LaneView) (outs : List OutView) → ArePassesOf lanes outs → length outs ≡ length lanes
 ends_len lanes outs ends = sym (length-map outs (λ (o : OutView). o.id)) ∙ ap length ends ∙ length-map lanes (λ (l : LaneView). l.id)
 
-pub ends_within : (lanes : List LaneView) (outs : List OutView) (place : ℕ) → AreEnds lanes outs → place < length lanes → place < length (takens outs)
+pub ends_within : (lanes : List LaneView) (outs : List OutView) (place : ℕ) → ArePassesOf lanes outs → place < length lanes → place < length (takens outs)
 ends_within lanes outs place ends inside = omega (arith, ends_len lanes outs ends, length-map outs (λ (o : OutView). o.taken), inside)
 
 -- what a take makes of the lists

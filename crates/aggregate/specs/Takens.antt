@@ -8,8 +8,8 @@ use Rattle.live_state.specs.Fold.{fits}
 use Rattle.live_state.specs.declared.layout.Layout.{Layout}
 
 -- each pass is one of the lane at its place
-abbrev pub AreEnds : List LaneView → List OutView → Type 0
-AreEnds lanes outs = map (λ (o : OutView). o.id) outs ≡ map (λ (l : LaneView). l.id) lanes
+abbrev pub ArePassesOf : List LaneView → List OutView → Type 0
+ArePassesOf lanes outs = map (λ (o : OutView). o.id) outs ≡ map (λ (l : LaneView). l.id) lanes
 
 abbrev pub takens : List OutView → List (List Push)
 takens outs = map (λ (o : OutView). o.taken) outs

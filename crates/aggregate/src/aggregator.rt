@@ -3,7 +3,7 @@ ghost use Rattle.std.specs.Prelude.{◌≡◌, ◌<◌, ◌≤◌, ◌+◌, ◌*
 ghost use Rattle.hash_rows.specs.declared.shape.Push.{Push};
 ghost use Rattle.hash_rows.specs.Rules.{Rules};
 ghost use Rattle.live_state.specs.Fold.{fits};
-ghost use Rattle.aggregate.specs.Takens.{AreEnds, taken_at, takens};
+ghost use Rattle.aggregate.specs.Takens.{ArePassesOf, taken_at, takens};
 ghost use Rattle.aggregate.specs.Sweeps.{HasSwept, HasSweptLane, HasTaken, HaveTaken, KeepsPair, in_order, kept_by};
 
 use crate::taking::{OutPasses, take_at};
@@ -158,10 +158,10 @@ impl<K: Kind> Aggregator<K> {
 
     // Takes and keeps messages of one lane.
     fn sweep_lane<R: Wait>(&mut self, rt: &R, lanes: &[Lane], place: u32) -> Result<u32, NoMemory>
-        requires ends { AreEnds lanes.now self.old.outs }
+        requires ends { ArePassesOf lanes.now self.old.outs }
         requires place { place < length lanes.now }
         requires none { self.old.held ≡ None }
-        ensures ends { AreEnds lanes.now self.new.outs }
+        ensures ends { ArePassesOf lanes.now self.new.outs }
         ensures same { KeepsPair self.old self.new }
         ensures count { IfOk result (λ n. n ≤ 1024) }
         ensures held { MatchResult result (λ _. self.new.held ≡ None) (λ _. IsSome self.new.held) }
@@ -185,8 +185,8 @@ impl<K: Kind> Aggregator<K> {
     /// taken of it or it gave none. Publishes all of them at once. Where one can't be appended it
     /// is held, and nothing is published.
     pub fn sweep<R: Wait>(&mut self, rt: &R, lanes: &[Lane]) -> Result<Swept, NoMemory>
-        requires ends { AreEnds lanes.now self.old.outs }
-        ensures ends { AreEnds lanes.now self.new.outs }
+        requires ends { ArePassesOf lanes.now self.old.outs }
+        ensures ends { ArePassesOf lanes.now self.new.outs }
         ensures same { KeepsPair self.old self.new }
         ensures held { MatchResult result (λ _. self.new.held ≡ None) (λ _. IsSome self.new.held) }
         ensures published { OnOk result (self.new.writer.pending ≡ []) }
@@ -207,9 +207,9 @@ impl<K: Kind> Aggregator<K> {
     /// Takes messages of each lane, in order, until `batch` were taken of it or it gave none, and
     /// drops them. Answers their number.
     pub fn discard<R: Wait>(&mut self, rt: &R, lanes: &[Lane]) -> u32
-        requires ends { AreEnds lanes.now self.old.outs }
+        requires ends { ArePassesOf lanes.now self.old.outs }
         requires held { IsSome self.old.held }
-        ensures ends { AreEnds lanes.now self.new.outs }
+        ensures ends { ArePassesOf lanes.now self.new.outs }
         ensures writer { self.new.writer ≡ self.old.writer }
         ensures batch { self.new.batch ≡ self.old.batch }
         ensures held { self.new.held ≡ self.old.held }
@@ -233,10 +233,10 @@ fn fits_writer<K: Kind>(writer: &ViewWriter<K>, message: &Push) -> bool
 
 // Takes messages of each lane, in order, and drops them.
 fn drop_each<R: Wait>(rt: &R, outs: &mut OutPasses, lanes: &[Lane], batch: u32) -> u32
-    requires ends { AreEnds lanes.now outs.old.items }
+    requires ends { ArePassesOf lanes.now outs.old.items }
     requires batch { batch ≤ 1024 }
     requires few { length outs.old.items ≤ 65536 }
-    ensures ends { AreEnds lanes.now outs.new.items }
+    ensures ends { ArePassesOf lanes.now outs.new.items }
     ensures took { (mores : List (List Push)) × HaveTaken batch mores outs.old.items outs.new.items × (result ≡ length (in_order mores)) }
 {
     let mut taken = 0;
@@ -248,9 +248,9 @@ fn drop_each<R: Wait>(rt: &R, outs: &mut OutPasses, lanes: &[Lane], batch: u32) 
 
 // Takes messages of one lane and drops them.
 fn drop_lane<R: Wait>(rt: &R, outs: &mut OutPasses, lanes: &[Lane], place: u32, batch: u32) -> u32
-    requires ends { AreEnds lanes.now outs.old.items }
+    requires ends { ArePassesOf lanes.now outs.old.items }
     requires place { place < length lanes.now }
-    ensures ends { AreEnds lanes.now outs.new.items }
+    ensures ends { ArePassesOf lanes.now outs.new.items }
     ensures took { (more : List Push)
         × (takens outs.new.items ≡ slice_set (takens outs.old.items) place (taken_at (takens outs.old.items) place ++ more))
         × (length more ≤ batch) × (result ≡ length more) }

@@ -1,6 +1,6 @@
 //! The ends to take, by the place of their lanes.
 ghost use Rattle.std.specs.Prelude.{◌≡◌, ◌<◌, ◌++◌, [], ◌∷◌, length, map, slice_index_or, slice_set, MatchOption};
-ghost use Rattle.aggregate.specs.Takens.{AreEnds, takens};
+ghost use Rattle.aggregate.specs.Takens.{ArePassesOf, takens};
 
 use hash_rows::Push;
 use listed::Listed;
@@ -12,9 +12,9 @@ pub type OutPasses = Listed<OutPass>;
 
 /// Takes the oldest message of the lane at the place.
 pub fn take_at<R: Wait>(rt: &R, outs: &mut OutPasses, lanes: &[Lane], place: u32) -> Option<Push>
-    requires ends { AreEnds lanes.now outs.old.items }
+    requires ends { ArePassesOf lanes.now outs.old.items }
     requires place { place < length lanes.now }
-    ensures ends { AreEnds lanes.now outs.new.items }
+    ensures ends { ArePassesOf lanes.now outs.new.items }
     ensures taken { MatchOption result
         (takens outs.new.items ≡ takens outs.old.items)
         (λ message. takens outs.new.items ≡ slice_set (takens outs.old.items) place

@@ -20,7 +20,7 @@ use Rattle.push_history.proofs.MoreMessages.{cells_none, front_at, front_len}
 use Rattle.push_history.proofs.Notes.{map_range_same}
 use Rattle.std.proofs.lemmas.Option.{get_or_from_slice_get, slice_get_within}
 use Rattle.told_table.specs.Tables.{FitsIn, IsTableOf}
-use Rattle.answer_audit.specs.Reached.{HasReached, IsFor, IsWithin}
+use Rattle.answer_audit.specs.Reached.{HasReached, IsFor, IsWithinSent}
 
 none_before : (workers w : ℕ) → let none : ℕ = 0 in get_or (replicate workers none) w none ≡ none
 none_before workers w = elim (cases_lt w workers) [
@@ -96,7 +96,7 @@ length_take_within : {A : Type 0} (xs : List A) (n : ℕ) → n ≤ length xs �
 length_take_within xs n le = omega (arith, le, length-take n xs)
 
 -- the table is that of the messages up to the front
-pub reached_shown : (r : Rules) → AreLaws r → (messages : List (List Push)) (front : List ℕ) (table : TableView) → length front ≡ length messages → IsWithin messages front
+pub reached_shown : (r : Rules) → AreLaws r → (messages : List (List Push)) (front : List ℕ) (table : TableView) → length front ≡ length messages → IsWithinSent messages front
     → HasReached r messages front table → table.cells ≡ shown_cells r table.shape messages front
 unfolding shown_cells told_cells
 reached_shown r laws messages front table len within h =

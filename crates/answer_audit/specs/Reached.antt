@@ -5,12 +5,12 @@ use Rattle.hash_rows.specs.Rules.{Rules}
 use Rattle.hash_rows.specs.Tables.{TableView}
 use Rattle.push_history.specs.Front.{messages_of}
 use Rattle.push_history.specs.LawfulJournal.{sent_by}
-pub use Rattle.told_table.specs.Tables.{AreSent, IsFor}
+pub use Rattle.told_table.specs.Tables.{AreSent, IsMessageFor}
 use Rattle.told_table.specs.Tables.{IsTableOf}
 
 -- at most so many as the worker sent
-abbrev pub IsWithin : List (List Push) → List ℕ → Type 0
-IsWithin messages front = (w : ℕ) → w < length messages → slice_index_or front w 0 ≤ length (sent_by messages w)
+abbrev pub IsWithinSent : List (List Push) → List ℕ → Type 0
+IsWithinSent messages front = (w : ℕ) → w < length messages → slice_index_or front w 0 ≤ length (sent_by messages w)
 
 -- the table is that of some messages that are, of each worker, as many of its first ones as the front says
 pub record HasReached (r : Rules) (messages : List (List Push)) (front : List ℕ) (table : TableView) : Type 0 where

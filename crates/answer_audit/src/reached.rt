@@ -3,7 +3,7 @@ ghost use Rattle.hash_rows.specs.Shapes.{IsShape};
 ghost use Rattle.hash_rows.specs.declared.shape.Push.{Push};
 ghost use Rattle.told_table.specs.Tables.{lists_of};
 ghost use Rattle.push_history.specs.LawfulJournal.{sent_by};
-ghost use Rattle.answer_audit.specs.Reached.{AreSent, HasReached, IsFor, IsWithin};
+ghost use Rattle.answer_audit.specs.Reached.{AreSent, HasReached, IsFor, IsWithinSent};
 
 use flow_base::NoMemory;
 use hash_rows::{Counts, Kind, Push, Shape, Table};
@@ -38,7 +38,7 @@ impl<K: Kind> Reached<K> {
         requires len { length front.now ≡ length messages.now }
         requires few { length messages.now ≤ 16 }
         requires sent { AreSent K.rules self.old.table.shape (lists_of messages.now) }
-        requires within { IsWithin (lists_of messages.now) front.now }
+        requires within { IsWithinSent (lists_of messages.now) front.now }
         requires rising { (w : ℕ) → slice_index_or self.old.front.items w 0 ≤ slice_index_or front.now w 0 }
         ensures shape { self.new.table.shape ≡ self.old.table.shape }
         ensures front { self.new.front.items ≡ front.now }

@@ -3,7 +3,7 @@ use Rattle.std.proofs.Common.{◌≡◌, ◌<◌, ◌≤◌, ℕ, ◌+◌, List,
 use Rattle.std.specs.Prelude.{slice_index}
 use Rattle.std.proofs.lemmas.List.{append-nil}
 use Rattle.std.proofs.Math.Seq.{take-length}
-use Rattle.pcap_read.specs.Header.{IsShort, header_refusal}
+use Rattle.pcap_read.specs.Header.{IsPartOfHeader, header_refusal}
 use Rattle.capture_load.specs.Capture.{IsNg, ng_magic}
 use Rattle.capture_load.specs.Loads.{IsOther}
 
@@ -35,7 +35,7 @@ open_long k few = omega (arith, few, length-take k ng_magic)
 pub open_not_ng : (k : ℕ) → k < 4 → IsNg (take k ng_magic) → ⊥
 open_not_ng k few is = absurd (omega (arith, few, open_long k few, ng_long (take k ng_magic) is))
 
-pub open_short : (k : ℕ) → k < 4 → IsShort (take k ng_magic)
+pub open_short : (k : ℕ) → k < 4 → IsPartOfHeader (take k ng_magic)
 unfolding header_refusal
 open_short zero few = record { few = omega (arith, few); fine = refl }
 open_short (suc zero) few = record { few = omega (arith, few); fine = refl }

@@ -16,7 +16,7 @@ use Rattle.pcap_read.specs.Place.{Place, Stands}
 use Rattle.pcap_read.specs.Takes.{TakesWhole}
 use Rattle.pcapng_read.specs.Takes.{TakesPacket}
 use Rattle.pcapng_read.specs.View.{NgReaderView, Stands as NgStands}
-use Rattle.capture_load.specs.Loads.{Keeps, NgNoted, PcapNoted}
+use Rattle.capture_load.specs.Loads.{KeepsPackets, NgNoted, PcapNoted}
 use Rattle.capture_load.specs.Notes.{number_of, tallied}
 use Rattle.capture_load.specs.Packets.{packets_of, packet_in, amount_of, tallies_of, is_short, is_not_ip, is_bad_ip, is_tagged}
 use Rattle.capture_load.specs.declared.notes.Notes.{Notes}
@@ -93,15 +93,15 @@ all_noted amount (f ∷ fs) =
     )
 
 -- as many frames are noted as there were
-pub number_noted : (notes : Notes) (frames : List Framed) → Keeps notes frames → number_of notes ≡ length frames
+pub number_noted : (notes : Notes) (frames : List Framed) → KeepsPackets notes frames → number_of notes ≡ length frames
 unfolding tallies_of
 number_noted notes frames keeps =
     let sum : Tallies → ℕ → ℕ = λ t n. t.short + t.not_ip + t.bad_ip + t.tags + n in
     ap (λ t. sum t (length notes.packets.items)) keeps.skipped ∙ ap (λ (ps : List Packet). sum (tallies_of frames) (length ps)) keeps.packets ∙ all_noted notes.amount frames
 
 -- one frame more was noted
-pub keeps_more : (old new : Notes) (frames : List Framed) (f : Framed) → Keeps old frames → new.amount ≡ old.amount
-    → new.packets.items ≡ old.packets.items ++ packets_of old.amount (f ∷ []) → new.skipped ≡ tallied old.skipped (key_of f.bytes) → Keeps new (frames ++ f ∷ [])
+pub keeps_more : (old new : Notes) (frames : List Framed) (f : Framed) → KeepsPackets old frames → new.amount ≡ old.amount
+    → new.packets.items ≡ old.packets.items ++ packets_of old.amount (f ∷ []) → new.skipped ≡ tallied old.skipped (key_of f.bytes) → KeepsPackets new (frames ++ f ∷ [])
 keeps_more old new frames f keeps amount packets skipped = record {
   packets = packets ∙ ap (λ (ps : List Packet). ps ++ packets_of old.amount (f ∷ [])) keeps.packets ∙ sym (packets_append old.amount frames (f ∷ []))
       ∙ ap (λ a. packets_of a (frames ++ f ∷ [])) (sym amount);
@@ -122,12 +122,12 @@ ng_whole reader bytes frames f whole lent =
     subst (λ (g : Framed). NgStands reader bytes (frames ++ g ∷ [])) next whole.stands
 
 -- no record became whole
-pub pcap_part : (reader : Place) (notes : Notes) (bytes : List ℕ) (frames : List Framed) → Stands reader bytes frames → Keeps notes frames
+pub pcap_part : (reader : Place) (notes : Notes) (bytes : List ℕ) (frames : List Framed) → Stands reader bytes frames → KeepsPackets notes frames
     → (more : List Framed) × PcapNoted reader notes bytes (frames ++ more)
 pcap_part reader notes bytes frames stands keeps =
     ([], subst (λ (fs : List Framed). PcapNoted reader notes bytes fs) (sym (append-nil frames)) (record { stands = stands; keeps = keeps }))
 
-pub ng_part : (reader : NgReaderView) (notes : Notes) (bytes : List ℕ) (frames : List Framed) → NgStands reader bytes frames → Keeps notes frames
+pub ng_part : (reader : NgReaderView) (notes : Notes) (bytes : List ℕ) (frames : List Framed) → NgStands reader bytes frames → KeepsPackets notes frames
     → (more : List Framed) × NgNoted reader notes bytes (frames ++ more)
 ng_part reader notes bytes frames stands keeps =
     ([], subst (λ (fs : List Framed). NgNoted reader notes bytes fs) (sym (append-nil frames)) (record { stands = stands; keeps = keeps }))

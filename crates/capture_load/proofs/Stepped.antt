@@ -6,7 +6,7 @@ use Rattle.pcap_read.specs.Place.{Place}
 use Rattle.pcap_read.specs.Records.{Framed}
 use Rattle.pcapng_read.specs.View.{NgReaderView}
 use Rattle.capture_load.specs.Capture.{IsNg}
-use Rattle.capture_load.specs.Loads.{IsOther, Keeps, Loads, NgNoted, NgStops, PcapNoted, PcapStops, StandsIn, StopsIn}
+use Rattle.capture_load.specs.Loads.{IsOther, KeepsPackets, Loads, NgNoted, NgStops, PcapNoted, PcapStops, StandsIn, StopsIn}
 use Rattle.capture_load.specs.declared.capture.LoadStop.{LoadStop}
 use Rattle.capture_load.specs.declared.capture.LoadStop.TheVariants.{ReadFault, Bad as BadStop, Ng as NgStop, NoMemory}
 use Rattle.capture_load.specs.declared.format.Format.{Format}

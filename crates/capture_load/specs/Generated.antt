@@ -33,14 +33,14 @@ abbrev pub ethernet_header : List ℕ
 ethernet_header = 2 ∷ 0 ∷ 0 ∷ 0 ∷ 0 ∷ 2 ∷ 2 ∷ 0 ∷ 0 ∷ 0 ∷ 0 ∷ 1 ∷ 8 ∷ 0 ∷ []
 
 -- TCP for even flows, UDP for odd ones
-abbrev pub protocol_of : ℕ → ℕ
-protocol_of flow = if flow % 2 == 0 then 6 else 17
+abbrev pub protocol_of_flow : ℕ → ℕ
+protocol_of_flow flow = if flow % 2 == 0 then 6 else 17
 
 -- an IPv4 header of 20 bytes without a checksum
 unfoldable pub ip_header : ℕ → List ℕ
 ip_header x =
     (0x45 ∷ 0 ∷ []) ++ to_be_bytes w16 (length_of x - 14)
-    ++ (0 ∷ 0 ∷ 0 ∷ 0 ∷ 0x40 ∷ protocol_of (flow_of x) ∷ 0 ∷ 0 ∷ 10 ∷ 0 ∷ 0 ∷ flow_of x ∷ 10 ∷ 0 ∷ 1 ∷ target_of x ∷ [])
+    ++ (0 ∷ 0 ∷ 0 ∷ 0 ∷ 0x40 ∷ protocol_of_flow (flow_of x) ∷ 0 ∷ 0 ∷ 10 ∷ 0 ∷ 0 ∷ flow_of x ∷ 10 ∷ 0 ∷ 1 ∷ target_of x ∷ [])
 
 -- the ports, and four bytes more of TCP or UDP
 unfoldable pub port_bytes : ℕ → List ℕ

@@ -38,18 +38,18 @@ pub record IsLoaded (amount : Amount) (bytes : List ℕ) (capture : Capture) : T
   pub skipped : capture.skipped ≡ tallies_of frames
 
 -- the packets of these frames are kept, and the others are counted
-pub record Keeps (notes : Notes) (frames : List Framed) : Type 0 where
+pub record KeepsPackets (notes : Notes) (frames : List Framed) : Type 0 where
   pub packets : notes.packets.items ≡ packets_of notes.amount frames
   pub skipped : notes.skipped ≡ tallies_of frames
 
 -- a reader has taken these bytes, and the frames that it lent are noted
 pub record PcapNoted (reader : Place) (notes : Notes) (bytes : List ℕ) (frames : List Framed) : Type 0 where
   pub stands : Stands reader bytes frames
-  pub keeps : Keeps notes frames
+  pub keeps : KeepsPackets notes frames
 
 pub record NgNoted (reader : NgReaderView) (notes : Notes) (bytes : List ℕ) (frames : List Framed) : Type 0 where
   pub stands : NgStands reader bytes frames
-  pub keeps : Keeps notes frames
+  pub keeps : KeepsPackets notes frames
 
 -- whatever follows, the capture isn't pcapng
 abbrev pub IsOther : List ℕ → Type 0
@@ -64,7 +64,7 @@ StandsIn (Ng reader) bytes frames = IsNg bytes × NgStands reader bytes frames
 -- the same, and the frames are noted
 pub record Loads (loading : Loading) (bytes : List ℕ) (frames : List Framed) : Type 0 where
   pub stands : StandsIn loading.format bytes frames
-  pub keeps : Keeps loading.notes frames
+  pub keeps : KeepsPackets loading.notes frames
 
 -- as many frames were noted as records or packets are whole
 abbrev pub IsCounted : Format → ℕ → Type 0
@@ -76,10 +76,10 @@ abbrev pub Counts : Loading → Type 0
 Counts loading = IsCounted loading.format (number_of loading.notes)
 
 -- how many bytes came
-abbrev pub bytes_of : Format → ℕ
-bytes_of (Open matched) = matched
-bytes_of (Pcap reader) = reader.bytes
-bytes_of (Ng reader) = taken_by reader
+abbrev pub bytes_taken : Format → ℕ
+bytes_taken (Open matched) = matched
+bytes_taken (Pcap reader) = reader.bytes
+bytes_taken (Ng reader) = taken_by reader
 
 -- the most bytes that are read of a capture
 abbrev pub most_bytes : ℕ

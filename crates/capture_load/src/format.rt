@@ -3,7 +3,7 @@ ghost use Rattle.pcap_read.specs.Place.{Stands};
 ghost use Rattle.pcap_read.specs.Records.{Framed};
 ghost use Rattle.pcapng_read.specs.View.{Stands as NgStands};
 ghost use Rattle.capture_load.specs.Capture.{ng_magic};
-ghost use Rattle.capture_load.specs.Loads.{EndsAs, IsCounted, StandsIn, bytes_of};
+ghost use Rattle.capture_load.specs.Loads.{EndsAs, IsCounted, StandsIn, bytes_taken};
 
 use crate::LoadStop;
 use flow_base::NoMemory;
@@ -47,7 +47,7 @@ pub fn pcap_reader(alloc: Global, matched: usize) -> Result<Reader, NoMemory>
 pub fn ng_reader(alloc: Global) -> Result<NgReader, NoMemory>
     ensures stands { IfOk result (λ reader. NgStands reader ng_magic []) }
     ensures counted { IfOk result (λ reader. IsCounted (Format.Ng reader) 0) }
-    ensures bytes { IfOk result (λ reader. bytes_of (Format.Ng reader) ≡ 4) }
+    ensures bytes { IfOk result (λ reader. bytes_taken (Format.Ng reader) ≡ 4) }
 {
     let mut reader = NgReader::new(alloc, LIMIT)?;
     match reader.take(&MAGIC) {

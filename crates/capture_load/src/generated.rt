@@ -1,5 +1,5 @@
 ghost use Rattle.std.specs.Prelude.{◌≡◌, ◌≤◌, ◌<◌, ◌+◌, ◌-◌, ◌++◌, length, take, drop, Some, IfOk};
-ghost use Rattle.capture_load.specs.Generated.{flow_of, generated, generated_record, ip_header, length_of, port_bytes, protocol_of, record_header};
+ghost use Rattle.capture_load.specs.Generated.{flow_of, generated, generated_record, ip_header, length_of, port_bytes, protocol_of_flow, record_header};
 
 use flow_base::{Failed, Source};
 use hash_rows::mix64;
@@ -132,7 +132,7 @@ fn flow(x: u64) -> u8
 
 // TCP or UDP.
 fn protocol(flow: u8) -> u8
-    ensures { result ≡ protocol_of flow }
+    ensures { result ≡ protocol_of_flow flow }
 {
     if flow % 2 == 0 { 6 } else { 17 }
 }

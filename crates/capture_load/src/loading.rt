@@ -1,6 +1,6 @@
 ghost use Rattle.std.specs.Prelude.{◌≡◌, ◌≢◌, ◌<◌, ◌≤◌, ◌+◌, ◌++◌, ℕ, List, length, take, slice_index, IfOk, OnOk, MatchResult};
 ghost use Rattle.pcap_read.specs.Records.{Framed};
-ghost use Rattle.capture_load.specs.Loads.{Counts, Loads, StopsIn, bytes_of, most_bytes};
+ghost use Rattle.capture_load.specs.Loads.{Counts, Loads, StopsIn, bytes_taken, most_bytes};
 ghost use Rattle.capture_load.specs.declared.format.Format.{Format};
 ghost use Rattle.capture_load.specs.Capture.{ng_magic};
 
@@ -26,8 +26,8 @@ impl Loading {
             (λ _. (more : List Framed) × Loads self.new (bytes ++ piece.now) (frames ++ more))
             (StopsIn (bytes ++ piece.now)) }
         ensures counts { OnOk result (Counts self.new) }
-        ensures bytes { OnOk result (bytes_of self.new.format ≡ bytes_of self.old.format + length piece.now) }
-        ensures most { OnOk result (0 < length piece.now → bytes_of self.new.format ≤ most_bytes) }
+        ensures bytes { OnOk result (bytes_taken self.new.format ≡ bytes_taken self.old.format + length piece.now) }
+        ensures most { OnOk result (0 < length piece.now → bytes_taken self.new.format ≤ most_bytes) }
         ensures amount { self.new.notes.amount ≡ self.old.notes.amount }
     {
         let mut at = 0;
@@ -51,8 +51,8 @@ impl Loading {
         ensures some { IfOk result (λ used. 0 < used) }
         ensures bound { IfOk result (λ used. used ≤ length piece.now) }
         ensures counts { OnOk result (Counts self.new) }
-        ensures bytes { IfOk result (λ used. bytes_of self.new.format ≡ bytes_of self.old.format + used) }
-        ensures most { OnOk result (bytes_of self.new.format ≤ most_bytes) }
+        ensures bytes { IfOk result (λ used. bytes_taken self.new.format ≡ bytes_taken self.old.format + used) }
+        ensures most { OnOk result (bytes_taken self.new.format ≤ most_bytes) }
         ensures amount { self.new.notes.amount ≡ self.old.notes.amount }
     {
         match &mut self.format {
@@ -78,8 +78,8 @@ impl Loading {
         ensures some { IfOk result (λ used. 0 < used) }
         ensures bound { IfOk result (λ used. used ≤ length piece.now) }
         ensures counts { OnOk result (Counts self.new) }
-        ensures bytes { IfOk result (λ used. bytes_of self.new.format ≡ bytes_of self.old.format + used) }
-        ensures most { OnOk result (bytes_of self.new.format ≤ most_bytes) }
+        ensures bytes { IfOk result (λ used. bytes_taken self.new.format ≡ bytes_taken self.old.format + used) }
+        ensures most { OnOk result (bytes_taken self.new.format ≤ most_bytes) }
         ensures amount { self.new.notes.amount ≡ self.old.notes.amount }
     {
         if piece[0] != MAGIC[matched] {
@@ -111,8 +111,8 @@ impl Loading {
         ensures some { IfOk result (λ used. 0 < used) }
         ensures bound { IfOk result (λ used. used ≤ length piece.now) }
         ensures counts { OnOk result (Counts self.new) }
-        ensures bytes { IfOk result (λ used. bytes_of self.new.format ≡ bytes_of self.old.format + used) }
-        ensures most { OnOk result (bytes_of self.new.format ≤ most_bytes) }
+        ensures bytes { IfOk result (λ used. bytes_taken self.new.format ≡ bytes_taken self.old.format + used) }
+        ensures most { OnOk result (bytes_taken self.new.format ≤ most_bytes) }
         ensures amount { self.new.notes.amount ≡ self.old.notes.amount }
     {
         match pcap_reader(alloc, matched) {

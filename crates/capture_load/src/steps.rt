@@ -1,6 +1,6 @@
 ghost use Rattle.std.specs.Prelude.{◌≡◌, ◌<◌, ◌≤◌, ◌+◌, ◌++◌, ℕ, List, length, take, IfOk, OnOk, MatchResult};
 ghost use Rattle.pcap_read.specs.Records.{Framed};
-ghost use Rattle.capture_load.specs.Loads.{IsCounted, NgNoted, NgStops, PcapNoted, PcapStops, bytes_of, most_bytes};
+ghost use Rattle.capture_load.specs.Loads.{IsCounted, NgNoted, NgStops, PcapNoted, PcapStops, bytes_taken, most_bytes};
 ghost use Rattle.capture_load.specs.Notes.{number_of};
 ghost use Rattle.capture_load.specs.declared.capture.LoadStop.{LoadStop};
 ghost use Rattle.capture_load.specs.declared.format.Format.{Format};
@@ -124,7 +124,7 @@ impl Frames for NgReader {
 
     ghost counted = { λ reader. IsCounted (Format.Ng reader) };
 
-    ghost bytes = { λ reader. bytes_of (Format.Ng reader) };
+    ghost bytes = { λ reader. bytes_taken (Format.Ng reader) };
 
     ghost stops = { NgStops };
 
@@ -151,8 +151,8 @@ fn take_ng(reader: &mut NgReader, notes: &mut Notes, piece: &[u8]) -> Result<usi
     ensures some { IfOk result (λ used. 0 < used) }
     ensures bound { IfOk result (λ used. used ≤ length piece.now) }
     ensures counted { OnOk result (IsCounted (Format.Ng reader.new) (number_of notes.new)) }
-    ensures bytes { IfOk result (λ used. bytes_of (Format.Ng reader.new) ≡ bytes_of (Format.Ng reader.old) + used) }
-    ensures most { OnOk result (bytes_of (Format.Ng reader.new) ≤ most_bytes) }
+    ensures bytes { IfOk result (λ used. bytes_taken (Format.Ng reader.new) ≡ bytes_taken (Format.Ng reader.old) + used) }
+    ensures most { OnOk result (bytes_taken (Format.Ng reader.new) ≤ most_bytes) }
     ensures amount { notes.new.amount ≡ notes.old.amount }
 {
     match reader.take(piece) {

@@ -14,7 +14,7 @@ use Rattle.octo_text.specs.Lines.{count_line, sketch_words, words_line}
 use Rattle.octo_text.specs.ReportText.{estimate_line, row_line, skipped_line}
 use Rattle.epoch_run.specs.declared.change.Change.{Change}
 use Rattle.epoch_run.specs.declared.epoch.Epoch.{Epoch}
-use Rattle.epoch_run.specs.Changes.{AreGreatest, estimates_of, keys_of}
+use Rattle.epoch_run.specs.Changes.{AreGreatest, estimates_of, packet_keys}
 use Rattle.epoch_run.specs.Epochs.{AreEpochs, HasChanges, IsEpoch, epoch_count, epoch_packets, sketch_table}
 use Rattle.reports.specs.ReportOf.{AskForOneReport}
 use Rattle.reports.proofs.OneReport.{one_heaviest}
@@ -25,11 +25,11 @@ use Rattle.epoch_report.proofs.OneChange.{one_greatest}
 
 -- what the table of an epoch says of its flows
 one_settled : (o p : Options) (here : List Packet) (m n : ℕ) (xs ys : List Flow) → o.shape ≡ p.shape → o.least ≡ p.least → o.heavy ≡ p.heavy
-    → AreHeaviest (estimates_of (sketch_table o.shape here)) o.least (keys_of here) o.heavy m xs
-    → AreHeaviest (estimates_of (sketch_table p.shape here)) p.least (keys_of here) p.heavy n ys → (m ≡ n) × (xs ≡ ys)
+    → AreHeaviest (estimates_of (sketch_table o.shape here)) o.least (packet_keys here) o.heavy m xs
+    → AreHeaviest (estimates_of (sketch_table p.shape here)) p.least (packet_keys here) p.heavy n ys → (m ≡ n) × (xs ≡ ys)
 one_settled o p here m n xs ys shape least heavy a b =
-    let sized = subst (λ (s : Shape). AreHeaviest (estimates_of (sketch_table s here)) p.least (keys_of here) p.heavy n ys) (sym shape) b in
-    one_heaviest (estimates_of (sketch_table o.shape here)) o.least (keys_of here) o.heavy m n xs ys a (rw (least, heavy) sized)
+    let sized = subst (λ (s : Shape). AreHeaviest (estimates_of (sketch_table s here)) p.least (packet_keys here) p.heavy n ys) (sym shape) b in
+    one_heaviest (estimates_of (sketch_table o.shape here)) o.least (packet_keys here) o.heavy m n xs ys a (rw (least, heavy) sized)
 
 -- what changed since the epoch before
 one_change_text : (size change : ℕ) (o p : Options) (packets : List Packet) (e : ℕ) (r s : Epoch) → o.shape ≡ p.shape → o.heavy ≡ p.heavy
@@ -39,7 +39,7 @@ one_change_text size change o p packets zero r s shape heavy a b = refl
 one_change_text size change o p packets (suc e) r s shape heavy a b =
     let before = epoch_packets size packets e in
     let here = epoch_packets size packets (suc e) in
-    let keys = keys_of (before ++ here) in
+    let keys = packet_keys (before ++ here) in
     let sized = subst (λ (h : Shape). AreGreatest (estimates_of (sketch_table h before)) (estimates_of (sketch_table h here)) change keys p.heavy s.changed s.changes.items) (sym shape) b in
     let most = subst (λ (n : ℕ). AreGreatest (estimates_of (sketch_table o.shape before)) (estimates_of (sketch_table o.shape here)) change keys n s.changed s.changes.items) (sym heavy) sized in
     let same = one_greatest (estimates_of (sketch_table o.shape before)) (estimates_of (sketch_table o.shape here)) change keys o.heavy r.changed s.changed r.changes.items s.changes.items a most in

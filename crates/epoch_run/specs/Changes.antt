@@ -14,8 +14,8 @@ abbrev pub estimates_of : TableView → FlowKey → ℤ
 estimates_of table = (rules_of CountSketch).estimate table.shape table.cells
 
 -- the keys of some packets
-abbrev pub keys_of : List Packet → List FlowKey
-keys_of packets = map (λ p. p.key) packets
+abbrev pub packet_keys : List Packet → List FlowKey
+packet_keys packets = map (λ p. p.key) packets
 
 -- how far apart the two estimates of a key are
 abbrev pub distance_by : (FlowKey → ℤ) → (FlowKey → ℤ) → FlowKey → ℤ

@@ -16,7 +16,7 @@ use Rattle.hash_rows.specs.Tables.{TableView, used_in, value_at}
 use Rattle.heavy_keys.specs.FinalHeavy.{AreHeaviest}
 use Rattle.epoch_run.specs.declared.change.Change.{Change}
 use Rattle.epoch_run.specs.declared.epoch.Epoch.{Epoch}
-use Rattle.epoch_run.specs.Changes.{AreGreatest, estimates_of, keys_of}
+use Rattle.epoch_run.specs.Changes.{AreGreatest, estimates_of, packet_keys}
 
 -- lawful options of a Count Sketch without readers; 256 to 16,777,216 packets an epoch; a change of 1 to 2 ^ 40
 pub record IsEpochsRun (size change : ℕ) (o : Options) : Type 0 where
@@ -44,7 +44,7 @@ sketch_table shape packets = sequential_table (rules_of CountSketch) shape packe
 abbrev pub HasChanged : ℕ → Options → List Packet → List Packet → ℕ → List Change → Type 0
 HasChanged change o before here changed changes =
     AreGreatest (estimates_of (sketch_table o.shape before)) (estimates_of (sketch_table o.shape here)) change
-    (keys_of (before ++ here)) o.heavy changed changes
+    (packet_keys (before ++ here)) o.heavy changed changes
 
 -- the changes of epoch e: before the first epoch there is none to compare it with
 abbrev pub HasChanges : ℕ → ℕ → Options → List Packet → ℕ → ℕ → List Change → Type 0
@@ -57,7 +57,7 @@ pub record IsSettled (o : Options) (here : List Packet) (epoch : Epoch) : Type 0
   pub packets_are : epoch.packets ≡ length here
   pub total : epoch.total ≡ total_amount here
   pub used : epoch.used.items ≡ map (used_in (sketch_table o.shape here)) (rows_of o.shape)
-  pub heavy : AreHeaviest (estimates_of (sketch_table o.shape here)) o.least (keys_of here) o.heavy epoch.heavy epoch.flows.items
+  pub heavy : AreHeaviest (estimates_of (sketch_table o.shape here)) o.least (packet_keys here) o.heavy epoch.heavy epoch.flows.items
 
 -- epoch e, by its own packets and those of the epoch before
 pub record IsEpoch (size change : ℕ) (o : Options) (packets : List Packet) (e : ℕ) (epoch : Epoch) : Type 0 where

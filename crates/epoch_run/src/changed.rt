@@ -1,6 +1,6 @@
 ghost use Rattle.std.specs.Prelude.{◌≡◌, ◌≤◌, ◌^◌, ◌+◌, ◌++◌, List, length, map, take, IfOk};
 ghost use Rattle.hash_rows.specs.declared.shape.Packet.{Packet};
-ghost use Rattle.epoch_run.specs.Changes.{AreChanges, AreGreatest, AreWithin, change_by, estimates_of, keys_of};
+ghost use Rattle.epoch_run.specs.Changes.{AreChanges, AreGreatest, AreWithin, change_by, estimates_of, packet_keys};
 ghost use Rattle.epoch_run.specs.Distances.{capped_distance};
 
 use crate::change::{Change, Changes, GreatestChanges};
@@ -43,7 +43,7 @@ pub fn changed_flows(
     requires old { AreWithin (2 ^ 56) old.now }
     requires new { AreWithin (2 ^ 56) new.now }
     ensures { IfOk result (λ changes. AreChanges (estimates_of old.now) (estimates_of new.now) least
-        (keys_of (before.now ++ after.now)) changes.items) }
+        (packet_keys (before.now ++ after.now)) changes.items) }
 {
     let packets = joined(alloc, before, after)?;
     let greatest = greatest_changes(alloc, packets.as_slice(), old, new, least, u32::MAX)?;
@@ -66,7 +66,7 @@ pub fn greatest_changes(
     requires old { AreWithin (2 ^ 60) old.now }
     requires new { AreWithin (2 ^ 60) new.now }
     ensures { IfOk result (λ g. AreGreatest (estimates_of old.now) (estimates_of new.now) least
-        (keys_of packets.now) most g.count g.changes.items) }
+        (packet_keys packets.now) most g.count g.changes.items) }
 {
     let distances = Distances { old, new };
     let least = least.min(MOST) as i64;

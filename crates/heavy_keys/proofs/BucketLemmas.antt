@@ -10,7 +10,7 @@ use Rattle.packet_key.specs.declared.key.FlowKey.{FlowKey}
 use Rattle.hash_rows.specs.declared.shape.Packet.{Packet}
 use Rattle.push_history.specs.LiveHeavy.{same_key}
 use Rattle.heavy_keys.specs.Candidates.{IsCandidate, candidate_key}
-use Rattle.heavy_keys.specs.Buckets.{AreBuckets, is_in, bucket_of}
+use Rattle.heavy_keys.specs.Buckets.{AreBuckets, is_in_bucket, bucket_of}
 use Rattle.heavy_keys.specs.Fingerprints.{fingerprint_of}
 use Rattle.heavy_keys.specs.declared.candidates.Candidate.{Candidate}
 use Rattle.heavy_keys.proofs.KeyOrder.{one_key}
@@ -25,20 +25,20 @@ module _ (candidates : List Candidate) (c : Candidate) (lists more : List (Vec C
     each = λ bucket none inside. by bucket none inside (bucket_of c.fingerprint == bucket) refl;
   }
     where
-      grown : (bucket : ℕ) → filter (is_in bucket) (candidates ++ c ∷ []) ≡ filter (is_in bucket) candidates ++ cond (bucket_of c.fingerprint == bucket) (c ∷ []) []
-      grown bucket = filter-append (is_in bucket) candidates (c ∷ [])
+      grown : (bucket : ℕ) → filter (is_in_bucket bucket) (candidates ++ c ∷ []) ≡ filter (is_in_bucket bucket) candidates ++ cond (bucket_of c.fingerprint == bucket) (c ∷ []) []
+      grown bucket = filter-append (is_in_bucket bucket) candidates (c ∷ [])
 
-      by : (bucket : ℕ) (none : Vec Candidate) → bucket < 32 → (t : Bool) → (bucket_of c.fingerprint == bucket) ≡ t → (get_or more bucket none).items ≡ filter (is_in bucket) (candidates ++ c ∷ [])
+      by : (bucket : ℕ) (none : Vec Candidate) → bucket < 32 → (t : Bool) → (bucket_of c.fingerprint == bucket) ≡ t → (get_or more bucket none).items ≡ filter (is_in_bucket bucket) (candidates ++ c ∷ [])
       by bucket none inside true e =
           let same : bucket_of c.fingerprint ≡ bucket = grind (arith, e) in
           let room : bucket_of c.fingerprint < length lists = omega (arith, below, h.count) in
           let now : get_or more bucket none ≡ list = ap (λ l. get_or l bucket none) placed ∙ ap (λ n. get_or (set lists (bucket_of c.fingerprint) list) n none) (sym same) ∙ get_or-set_same lists (bucket_of c.fingerprint) list none room in
-          ap (λ (v : Vec Candidate). v.items) now ∙ put ∙ ap (λ l. l ++ c ∷ []) (ap (λ (v : Vec Candidate). v.items) is ∙ h.each (bucket_of c.fingerprint) before below ∙ ap (λ n. filter (is_in n) candidates) same)
-          ∙ sym (grown bucket ∙ ap (λ t. filter (is_in bucket) candidates ++ cond t (c ∷ []) []) e)
+          ap (λ (v : Vec Candidate). v.items) now ∙ put ∙ ap (λ l. l ++ c ∷ []) (ap (λ (v : Vec Candidate). v.items) is ∙ h.each (bucket_of c.fingerprint) before below ∙ ap (λ n. filter (is_in_bucket n) candidates) same)
+          ∙ sym (grown bucket ∙ ap (λ t. filter (is_in_bucket bucket) candidates ++ cond t (c ∷ []) []) e)
       by bucket none inside false e =
           let other : bucket ≢ bucket_of c.fingerprint = λ same. grind (arith, e, same) in
           ap (λ (v : Vec Candidate). v.items) (ap (λ l. get_or l bucket none) placed ∙ get_or-set_other lists (bucket_of c.fingerprint) bucket list none other)
-          ∙ h.each bucket none inside ∙ sym (append-nil (filter (is_in bucket) candidates)) ∙ sym (grown bucket ∙ ap (λ t. filter (is_in bucket) candidates ++ cond t (c ∷ []) []) e)
+          ∙ h.each bucket none inside ∙ sym (append-nil (filter (is_in_bucket bucket) candidates)) ∙ sym (grown bucket ∙ ap (λ t. filter (is_in_bucket bucket) candidates ++ cond t (c ∷ []) []) e)
 
 -- a key that a test keeps is found among those that it keeps just where it is found among all
 found_kept : (test : FlowKey → Bool) (q : FlowKey) → test q ≡ true → (ks : List FlowKey) → is_member same_key ks q ≡ is_member same_key (filter test ks) q
@@ -121,16 +121,16 @@ module _ (packets : List Packet) where
   abbrev pub number_of : List Candidate → ℕ
   number_of candidates = distinct_count same_key (map (candidate_key packets) candidates)
 
-  key_in_is : (bucket : ℕ) (x : Candidate) → IsCandidate packets x → is_in bucket x ≡ key_in bucket (candidate_key packets x)
+  key_in_is : (bucket : ℕ) (x : Candidate) → IsCandidate packets x → is_in_bucket bucket x ≡ key_in bucket (candidate_key packets x)
   key_in_is bucket x is = ap (λ n. bucket_of n == bucket) is.fingerprint
 
   -- the keys of those in a list are those of all keys that stand there
-  keys_in : (bucket : ℕ) (xs : List Candidate) → All (IsCandidate packets) xs → map (candidate_key packets) (filter (is_in bucket) xs) ≡ filter (key_in bucket) (map (candidate_key packets) xs)
+  keys_in : (bucket : ℕ) (xs : List Candidate) → All (IsCandidate packets) xs → map (candidate_key packets) (filter (is_in_bucket bucket) xs) ≡ filter (key_in bucket) (map (candidate_key packets) xs)
   keys_in bucket [] each = refl
-  keys_in bucket (x ∷ xs) each = by (is_in bucket x) (key_in bucket (candidate_key packets x)) (key_in_is bucket x (All-head (IsCandidate packets) x xs each)) (keys_in bucket xs (All-tail (IsCandidate packets) x xs each))
+  keys_in bucket (x ∷ xs) each = by (is_in_bucket bucket x) (key_in bucket (candidate_key packets x)) (key_in_is bucket x (All-head (IsCandidate packets) x xs each)) (keys_in bucket xs (All-tail (IsCandidate packets) x xs each))
     where
-      by : (t u : Bool) → t ≡ u → map (candidate_key packets) (filter (is_in bucket) xs) ≡ filter (key_in bucket) (map (candidate_key packets) xs)
-          → map (candidate_key packets) (cond t (x ∷ filter (is_in bucket) xs) (filter (is_in bucket) xs)) ≡ cond u (candidate_key packets x ∷ filter (key_in bucket) (map (candidate_key packets) xs)) (filter (key_in bucket) (map (candidate_key packets) xs))
+      by : (t u : Bool) → t ≡ u → map (candidate_key packets) (filter (is_in_bucket bucket) xs) ≡ filter (key_in bucket) (map (candidate_key packets) xs)
+          → map (candidate_key packets) (cond t (x ∷ filter (is_in_bucket bucket) xs) (filter (is_in_bucket bucket) xs)) ≡ cond u (candidate_key packets x ∷ filter (key_in bucket) (map (candidate_key packets) xs)) (filter (key_in bucket) (map (candidate_key packets) xs))
       by true true e h = ap (λ l. candidate_key packets x ∷ l) h
       by true false e h = absurd (true≢false e)
       by false true e h = absurd (true≢false (sym e))
@@ -150,7 +150,7 @@ module _ (packets : List Packet) where
 
   module _ (candidates : List Candidate) (lists : List (Vec Candidate)) (h : AreBuckets candidates lists) (each : All (IsCandidate packets) candidates) where
     pub each_bucket : All (λ (list : Vec Candidate). All (IsCandidate packets) list.items) lists
-    each_bucket bucket none inside = subst (All (IsCandidate packets)) (sym (h.each bucket none (omega (arith, inside, h.count)))) (All-filter (is_in bucket) (IsCandidate packets) candidates each)
+    each_bucket bucket none inside = subst (All (IsCandidate packets)) (sym (h.each bucket none (omega (arith, inside, h.count)))) (All-filter (is_in_bucket bucket) (IsCandidate packets) candidates each)
 
     count_below : (none : Vec Candidate) (n : ℕ) → n ≤ 32 → sum_by (λ (list : Vec Candidate). number_of list.items) (take n lists) ≡ distinct_count same_key (filter (below n) (map (candidate_key packets) candidates))
     count_below none zero le = ap (distinct_count same_key) (sym (none_below (map (candidate_key packets) candidates)))

@@ -16,7 +16,7 @@ use Rattle.packet_key.specs.declared.key.FlowKey.TheVariants.{V4, V6}
 use Rattle.packet_key.specs.contracts.key.FlowKeyOrd.TheImpl.Laws.{matches_eq-law}
 use Rattle.push_history.specs.LiveHeavy.{same_key}
 use Rattle.heavy_keys.specs.FinalHeavy.{key_cmp, IsBefore}
-use Rattle.heavy_keys.specs.Ranks.{Rank, rank_order, flow_of}
+use Rattle.heavy_keys.specs.Ranks.{Rank, rank_order, flow_at_rank}
 
 both : (a b : Bool) → (a && b) ≡ true → (a ≡ true) × (b ≡ true)
 both true b h = (refl, h)
@@ -57,10 +57,10 @@ exact_rank a b h = by (int_cmp b.0.0 a.0.0) refl h
 below : (x y : ℤ) → int_cmp x y ≡ Less → x <ℤ y
 below x y h = grind arith
 
-pub before_rank : (a b : Rank) → rank_order a b ≡ Less → IsBefore (flow_of a) (flow_of b)
+pub before_rank : (a b : Rank) → rank_order a b ≡ Less → IsBefore (flow_at_rank a) (flow_at_rank b)
 before_rank a b h = by (int_cmp b.0.0 a.0.0) refl h
   where
-    by : (o : Ordering) → int_cmp b.0.0 a.0.0 ≡ o → ordering_then o (key_cmp a.1 b.1) ≡ Less → IsBefore (flow_of a) (flow_of b)
+    by : (o : Ordering) → int_cmp b.0.0 a.0.0 ≡ o → ordering_then o (key_cmp a.1 b.1) ≡ Less → IsBefore (flow_at_rank a) (flow_at_rank b)
     by Less e g = inl (below b.0.0 a.0.0 e)
     by Equal e g = inr (sym (exact_signed b.0.0 a.0.0 e), g)
     by Greater e g = cc

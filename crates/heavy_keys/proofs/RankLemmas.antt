@@ -6,7 +6,7 @@ use Rattle.hash_rows.specs.declared.shape.Flow.{Flow}
 use Rattle.hash_rows.specs.declared.shape.Packet.{Packet}
 use Rattle.std.proofs.Common.{take, ◌+◌}
 use Rattle.heavy_keys.specs.FinalHeavy.{IsBefore, IsFinalHeavy}
-use Rattle.heavy_keys.specs.Ranks.{Rank, flow_rank, rank_order, flow_of, AreHeavy}
+use Rattle.heavy_keys.specs.Ranks.{Rank, flow_rank, rank_order, flow_at_rank, AreHeavy}
 use Rattle.std.proofs.lemmas.Map.Keys.{Less-from_sorted}
 use Rattle.std.proofs.Math.ListN.{get_or-map}
 use Rattle.std.proofs.lemmas.List.{length-map, take_more, map-append}
@@ -69,18 +69,18 @@ heavy_none estimate_of least ranks none = record {
 }
 
 -- the flows of the ranks, in order
-pub final_flows : (estimate_of : FlowKey → ℤ) (least : ℤ) (keys : List FlowKey) (ranks : List Rank) (flows : List Flow) → flows ≡ map flow_of ranks
+pub final_flows : (estimate_of : FlowKey → ℤ) (least : ℤ) (keys : List FlowKey) (ranks : List Rank) (flows : List Flow) → flows ≡ map flow_at_rank ranks
     → IsStrictlySortedBy rank_order ranks → AreHeavy estimate_of least keys ranks → IsFinalHeavy estimate_of least keys flows
 final_flows estimate_of least keys ranks flows are sorted h = subst (IsFinalHeavy estimate_of least keys) (sym are) (record {
   sorted = λ i j d lt below.
-      let inside : j < length ranks = omega (arith, length-map ranks flow_of) in
+      let inside : j < length ranks = omega (arith, length-map ranks flow_at_rank) in
       let r : Rank = flow_rank d.estimate d.key in
       let less = Less-from_sorted rank_order ranks i j r sorted lt inside in
-      subst (λ (x : Flow). IsBefore x (get_or (map flow_of ranks) j d)) (sym (get_or-map flow_of ranks i r))
-      (subst (λ (x : Flow). IsBefore (flow_of (get_or ranks i r)) x) (sym (get_or-map flow_of ranks j r)) (before_rank (get_or ranks i r) (get_or ranks j r) less));
-  sound = λ flow c. let m = contains_map flow_of ranks flow c in
+      subst (λ (x : Flow). IsBefore x (get_or (map flow_at_rank ranks) j d)) (sym (get_or-map flow_at_rank ranks i r))
+      (subst (λ (x : Flow). IsBefore (flow_at_rank (get_or ranks i r)) x) (sym (get_or-map flow_at_rank ranks j r)) (before_rank (get_or ranks i r) (get_or ranks j r) less));
+  sound = λ flow c. let m = contains_map flow_at_rank ranks flow c in
       subst (λ (x : Flow). Contains keys x.key × (x.estimate ≡ estimate_of x.key) × (least ≤ℤ x.estimate)) m.2 (h.sound m.0 m.1);
-  whole = λ key c high. contains_image flow_of ranks (flow_rank (estimate_of key) key) (h.whole key c high);
+  whole = λ key c high. contains_image flow_at_rank ranks (flow_rank (estimate_of key) key) (h.whole key c high);
 })
 
 -- the keys of the packets, with one more packet

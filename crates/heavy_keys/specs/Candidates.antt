@@ -16,12 +16,12 @@ abbrev pub no_packet : Packet
 no_packet = record { key = V4 0 0 0 0 0; amount = 0 }
 
 -- the key of the packet at the place
-abbrev pub key_at : List Packet → ℕ → FlowKey
-key_at packets place = (slice_index_or packets place no_packet).key
+abbrev pub key_of_place : List Packet → ℕ → FlowKey
+key_of_place packets place = (slice_index_or packets place no_packet).key
 
 -- the key of the packet at the candidate's place
 abbrev pub candidate_key : List Packet → Candidate → FlowKey
-candidate_key packets candidate = key_at packets candidate.place
+candidate_key packets candidate = key_of_place packets candidate.place
 
 -- the candidate's place is that of a packet, and its fingerprint is that of the packet's key
 pub record IsCandidate (packets : List Packet) (candidate : Candidate) : Type 0 where

@@ -20,8 +20,8 @@ abbrev pub rank_order : Rank → Rank → Ordering
 rank_order a b = ordering_then (int_cmp b.0.0 a.0.0) (key_cmp a.1 b.1)
 
 -- the flow of a rank
-abbrev pub flow_of : Rank → Flow
-flow_of rank = record { key = rank.1; estimate = rank.0.0 }
+abbrev pub flow_at_rank : Rank → Flow
+flow_at_rank rank = record { key = rank.1; estimate = rank.0.0 }
 
 -- the ranks are those of the keys whose estimate is at least `least`
 pub record AreHeavy (estimate_of : FlowKey → ℤ) (least : ℤ) (keys : List FlowKey) (ranks : List Rank) : Type 0 where

@@ -1,6 +1,6 @@
 ghost use Rattle.std.specs.Prelude.{◌≡◌, ◌≤◌, ◌<◌, ◌+◌, ◌/◌, ◌++◌, ◌∷◌, [], List, length, map, IfOk, OnOk};
 ghost use Rattle.packet_key.specs.declared.key.FlowKey.{FlowKey};
-ghost use Rattle.heavy_keys.specs.Candidates.{AreFound, AreFoundUpTo, key_at};
+ghost use Rattle.heavy_keys.specs.Candidates.{AreFound, AreFoundUpTo, key_of_place};
 ghost use Rattle.heavy_keys.specs.Buckets.{AreBuckets};
 ghost use Rattle.heavy_keys.specs.declared.candidates.Candidate.{Candidate};
 ghost use Rattle.heavy_keys.specs.Fingerprints.{fingerprint_of};
@@ -125,14 +125,14 @@ impl Found {
         most: u32,
     ) -> Result<(), NoMemory>
         requires place { at < length packets.now }
-        requires hash { hash ≡ fingerprint_of (key_at packets.now at) }
+        requires hash { hash ≡ fingerprint_of (key_of_place packets.now at) }
         requires top { length self.old.top.keys ≤ most }
         ensures cache { self.new.cache ≡ self.old.cache }
         ensures few { OnOk result (length self.new.top.keys ≤ most) }
         ensures found { OnOk result ((keys : List FlowKey)
             → AreFound (E.estimate_of estimates.now) least most packets.now keys self.old.buckets.lists.items self.old.top.keys
             → AreFound (E.estimate_of estimates.now) least most packets.now
-            (keys ++ key_at packets.now at ∷ []) self.new.buckets.lists.items self.new.top.keys) }
+            (keys ++ key_of_place packets.now at ∷ []) self.new.buckets.lists.items self.new.top.keys) }
     {
         let key = &packets[at].key;
         let estimate = estimates.estimate_of(key);

@@ -1,7 +1,7 @@
 ghost use Rattle.std.specs.Prelude.{◌≡◌, ◌≤◌, ◌+◌, false, take, length, map, IfOk, OnOk, IsTrue};
 ghost use Rattle.std.specs.BTreeSet.{insert_key};
 ghost use Rattle.std.specs.Ordering.{is_lt};
-ghost use Rattle.heavy_keys.specs.Ranks.{flow_of, flow_rank, rank_order};
+ghost use Rattle.heavy_keys.specs.Ranks.{flow_at_rank, flow_rank, rank_order};
 
 use crate::ranks::Rank;
 use flow_base::NoMemory;
@@ -92,7 +92,7 @@ fn cut(top: &mut TopFlows, most: u32)
 
 /// The flows of the top.
 pub fn flows_of(alloc: Global, mut top: TopFlows) -> Result<Flows, NoMemory>
-    ensures { IfOk result (λ flows. flows.items ≡ map flow_of top.keys) }
+    ensures { IfOk result (λ flows. flows.items ≡ map flow_at_rank top.keys) }
 {
     let Ok(room) = u32::try_from(top.len()) else {
         return Err(NoMemory);

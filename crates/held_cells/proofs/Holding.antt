@@ -13,7 +13,7 @@ use Rattle.std.proofs.lemmas.Map.Made.{is_some-lookup}
 use Rattle.std.proofs.lemmas.Map.Steps.{length-le_from_distinct_below}
 use Rattle.hash_rows.specs.Rules.{Rules, AreLaws}
 use Rattle.push_history.proofs.Lists.{set_made}
-use Rattle.held_cells.specs.Held.{AreParts, Forms, IsByteOf, IsHeldBeside, Parts, byte_of, held_at, held_of, kept_at, mark, shown_at}
+use Rattle.held_cells.specs.Held.{AreHeldParts, Forms, IsByteOf, IsHeldBeside, Parts, byte_of, held_at, held_of, kept_at, mark, shown_at}
 
 -- how small forms and held values go together
 pub record AreForms {H : Type 0} (stands : H → ℤ → ℤ → Type 0) (f : Forms H) : Type 0 where
@@ -88,7 +88,7 @@ held_put f p q cell held len lt own others =
     ∙ sym (set_made (held_at f p) (held_at f q) (held_of f p) (length p.bytes) cell held held refl lt own others)
 
 -- the bytes tell what is held, once that of one cell is put
-values_put : {H : Type 0} (stands : H → ℤ → ℤ → Type 0) (f : Forms H) (p q : Parts H) (cell : ℕ) (held : H) (told whole : ℤ) → stands held told whole → AreParts stands f p
+values_put : {H : Type 0} (stands : H → ℤ → ℤ → Type 0) (f : Forms H) (p q : Parts H) (cell : ℕ) (held : H) (told whole : ℤ) → stands held told whole → AreHeldParts stands f p
     → q.bytes ≡ slice_set p.bytes cell (byte_of (f.small held)) → cell < length p.bytes
     → held_at f q cell ≡ held → ((k : ℕ) → (cell == k) ≡ false → held_at f q k ≡ held_at f p k)
     → (k : ℕ) → k < length q.bytes → IsByteOf stands f (held_at f q k) (get_or q.bytes k mark)
@@ -123,8 +123,8 @@ module _ {H : Type 0} (stands : H → ℤ → ℤ → Type 0) (f : Forms H) (p :
   pub opened_held : (bytes : List ℤ) (byte : ℤ) → bytes ≡ slice_set p.bytes cell byte → cell < length p.bytes → held_of f (opened bytes) ≡ slice_set (held_of f p) cell held
   opened_held bytes byte is lt = held_put f p (opened bytes) cell held (ap length is ∙ length-set p.bytes cell byte) lt (opened_own bytes) (opened_other bytes byte is)
 
-  pub opened_parts : AreParts stands f p → (told whole : ℤ) → stands held told whole → (bytes : List ℤ) → bytes ≡ slice_set p.bytes cell (byte_of (f.small held))
-      → cell < length p.bytes → 0 < p.left → AreParts stands f (opened bytes)
+  pub opened_parts : AreHeldParts stands f p → (told whole : ℤ) → stands held told whole → (bytes : List ℤ) → bytes ≡ slice_set p.bytes cell (byte_of (f.small held))
+      → cell < length p.bytes → 0 < p.left → AreHeldParts stands f (opened bytes)
   opened_parts parts told whole stood bytes is lt some =
       let long : length bytes ≡ length p.bytes = ap length is ∙ length-set p.bytes cell (byte_of (f.small held)) in
       record {
@@ -161,7 +161,7 @@ one_fewer side cell cells distinct below lt absent =
     by q false is among = below q (sym (ap (λ b. b || list_any (nat_eq q) (keys_of side)) is) ∙ among)
 
 -- a value is held of a cell, and no value is open then; none was of another cell
-module _ {H : Type 0} (stands : H → ℤ → ℤ → Type 0) (f : Forms H) (forms : AreForms stands f) (p : Parts H) (cell : ℕ) (parts : AreParts stands f p)
+module _ {H : Type 0} (stands : H → ℤ → ℤ → Type 0) (f : Forms H) (forms : AreForms stands f) (p : Parts H) (cell : ℕ) (parts : AreHeldParts stands f p)
     (within : cell < length p.bytes) (some : 0 < p.left) (shown : (k : ℕ) → (cell == k) ≡ false → held_at f p k ≡ kept_at f p.bytes p.side k)
     (held : H) (told whole : ℤ) (stood : stands held told whole) where
   abbrev pub settled : List ℤ → List (ℕ × H) → ℕ → ℕ → Parts H
@@ -192,7 +192,7 @@ module _ {H : Type 0} (stands : H → ℤ → ℤ → Type 0) (f : Forms H) (for
             sym (is_some-lookup (nat_eq k) p.side) ∙ ap is_some (sym (beside.others k other)) ∙ is_some-lookup (nat_eq k) side ∙ among in
             omega (arith, parts.cells k was, long)
 
-    pub settled_parts : left + 1 ≡ p.left → AreParts stands f (settled bytes side spare left)
+    pub settled_parts : left + 1 ≡ p.left → AreHeldParts stands f (settled bytes side spare left)
     settled_parts one_less = record {
       values = values_put stands f p (settled bytes side spare left) cell held told whole stood parts is within settled_own settled_other;
       pending = λ c h e. absurd (cc);
@@ -240,7 +240,7 @@ due_is due open_cell held cell is named = one (sym (ap (option_map (λ o. o.0)) 
     one e = cc
 
 -- the open cell is one of them, and shows the open value
-pub due_told : {H : Type 0} (stands : H → ℤ → ℤ → Type 0) (f : Forms H) (p : Parts H) → AreParts stands f p → (d : ℕ × H) → p.due ≡ Some d
+pub due_told : {H : Type 0} (stands : H → ℤ → ℤ → Type 0) (f : Forms H) (p : Parts H) → AreHeldParts stands f p → (d : ℕ × H) → p.due ≡ Some d
     → (cell : ℕ) → option_map (λ o. o.0) p.due ≡ Some cell → (cell < length (held_of f p)) × (slice_get (held_of f p) cell ≡ Some d.1)
 due_told {H} stands f p parts d is cell named =
     let lt = (parts.pending d.0 d.1 is).0 in
@@ -253,7 +253,7 @@ map_twice g h [] = refl
 map_twice g h (x ∷ xs) = ap (λ t. g (h x) ∷ t) (map_twice g h xs)
 
 -- the bytes, from what is held
-pub bytes_told : {H : Type 0} (stands : H → ℤ → ℤ → Type 0) (f : Forms H) (p : Parts H) → AreParts stands f p → p.bytes ≡ map (λ h. byte_of (f.small h)) (held_of f p)
+pub bytes_told : {H : Type 0} (stands : H → ℤ → ℤ → Type 0) (f : Forms H) (p : Parts H) → AreHeldParts stands f p → p.bytes ≡ map (λ h. byte_of (f.small h)) (held_of f p)
 bytes_told stands f p parts =
     fill_by_all (λ k. byte_of (f.small (held_at f p k))) p.bytes (length p.bytes) mark refl (λ k lt. (parts.values k lt).tells)
     ∙ sym (map_twice (λ h. byte_of (f.small h)) (held_at f p) (range_with_len 0 (length p.bytes)))
@@ -263,7 +263,7 @@ marks_wide : (small : Option ℤ) → ((b : ℤ) → small ≡ Some b → int_eq
 marks_wide None above = refl
 marks_wide (Some b) above = above b refl
 
-wide_at : {H : Type 0} (stands : H → ℤ → ℤ → Type 0) (f : Forms H) → AreForms stands f → (p : Parts H) → AreParts stands f p → (cell : ℕ) → cell < length p.bytes
+wide_at : {H : Type 0} (stands : H → ℤ → ℤ → Type 0) (f : Forms H) → AreForms stands f → (p : Parts H) → AreHeldParts stands f p → (cell : ℕ) → cell < length p.bytes
     → is_none (f.small (get_or (held_of f p) cell f.fresh)) ≡ int_eq (get_or p.bytes cell mark) mark
 wide_at stands f forms p parts cell lt =
     let at = parts.values cell lt in
@@ -272,13 +272,13 @@ wide_at stands f forms p parts cell lt =
     ∙ ap (λ b. int_eq b mark) (sym at.tells)
 
 -- how many have no small form, one cell more
-pub one_wider : {H : Type 0} (stands : H → ℤ → ℤ → Type 0) (f : Forms H) → AreForms stands f → (p : Parts H) → AreParts stands f p → (cell : ℕ) → cell < length p.bytes
+pub one_wider : {H : Type 0} (stands : H → ℤ → ℤ → Type 0) (f : Forms H) → AreForms stands f → (p : Parts H) → AreHeldParts stands f p → (cell : ℕ) → cell < length p.bytes
     → int_eq (get_or p.bytes cell mark) mark ≡ true
     → count_by (λ h. is_none (f.small h)) (take (cell + 1) (held_of f p)) ≡ count_by (λ h. is_none (f.small h)) (take cell (held_of f p)) + 1
 one_wider stands f forms p parts cell lt marked =
     count_by_more_yes (λ h. is_none (f.small h)) (held_of f p) cell f.fresh (omega (arith, lt, held_len f p)) (wide_at stands f forms p parts cell lt ∙ marked)
 
-pub none_wider : {H : Type 0} (stands : H → ℤ → ℤ → Type 0) (f : Forms H) → AreForms stands f → (p : Parts H) → AreParts stands f p → (cell : ℕ) → cell < length p.bytes
+pub none_wider : {H : Type 0} (stands : H → ℤ → ℤ → Type 0) (f : Forms H) → AreForms stands f → (p : Parts H) → AreHeldParts stands f p → (cell : ℕ) → cell < length p.bytes
     → int_eq (get_or p.bytes cell mark) mark ≡ false
     → count_by (λ h. is_none (f.small h)) (take (cell + 1) (held_of f p)) ≡ count_by (λ h. is_none (f.small h)) (take cell (held_of f p))
 none_wider stands f forms p parts cell lt small =
@@ -294,7 +294,7 @@ set_back (z ∷ zs) zero x is = ap (λ t. t ∷ zs) (sym (some_same z x is))
 set_back (z ∷ zs) (suc i) x is = ap (λ t. z ∷ t) (set_back zs i x is)
 
 -- the open value stands for two values
-pub due_stands : {H : Type 0} (stands : H → ℤ → ℤ → Type 0) (f : Forms H) (p : Parts H) → AreParts stands f p → (d : ℕ × H) → p.due ≡ Some d
+pub due_stands : {H : Type 0} (stands : H → ℤ → ℤ → Type 0) (f : Forms H) (p : Parts H) → AreHeldParts stands f p → (d : ℕ × H) → p.due ≡ Some d
     → (told : ℤ) × (whole : ℤ) × stands d.1 told whole
 due_stands stands f p parts d is =
     let at = parts.values d.0 (parts.pending d.0 d.1 is).0 in
@@ -302,7 +302,7 @@ due_stands stands f p parts d is =
     (at.told, at.whole, subst (λ h. stands h at.told at.whole) own at.stood)
 
 -- the byte of the open cell tells the open value
-pub due_byte : {H : Type 0} (stands : H → ℤ → ℤ → Type 0) (f : Forms H) (p : Parts H) → AreParts stands f p → (cell : ℕ) (held : H) → p.due ≡ Some (cell, held)
+pub due_byte : {H : Type 0} (stands : H → ℤ → ℤ → Type 0) (f : Forms H) (p : Parts H) → AreHeldParts stands f p → (cell : ℕ) (held : H) → p.due ≡ Some (cell, held)
     → p.bytes ≡ slice_set p.bytes cell (byte_of (f.small held))
 due_byte stands f p parts cell held is =
     let lt = (parts.pending cell held is).0 in

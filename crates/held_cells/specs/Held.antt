@@ -69,7 +69,7 @@ pub record IsByteOf {Held : Type 0} (stands : Held → ℤ → ℤ → Type 0) (
 
 -- each byte tells the small form of what is held; the open value is a cell's, and a change is left for it; the side
 -- table is one of cells, and has room for all that may come
-pub record AreParts {Held : Type 0} (stands : Held → ℤ → ℤ → Type 0) (f : Forms Held) (p : Parts Held) : Type 0 where
+pub record AreHeldParts {Held : Type 0} (stands : Held → ℤ → ℤ → Type 0) (f : Forms Held) (p : Parts Held) : Type 0 where
   pub values : (cell : ℕ) → cell < length p.bytes → IsByteOf stands f (held_at f p cell) (get_or p.bytes cell mark)
   pub pending : (cell : ℕ) (held : Held) → p.due ≡ Some (cell, held) → (cell < length p.bytes) × (0 < p.left)
   pub cells : (cell : ℕ) → list_any (nat_eq cell) (keys_of p.side) ≡ true → cell < length p.bytes

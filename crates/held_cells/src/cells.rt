@@ -28,7 +28,7 @@ pub struct HeldCells<K: Kind> {
 impl<K: Kind> Model for HeldCells<K> {
     ghost use Rattle.std.specs.Prelude.{length, option_map};
     ghost use Rattle.indexmap.specs.IndexMap.{spare};
-    ghost use Rattle.held_cells.specs.Held.{AreParts, HeldView, held_code, held_of};
+    ghost use Rattle.held_cells.specs.Held.{AreHeldParts, HeldView, held_code, held_of};
 
     ghost Value = { HeldView K.Held };
 
@@ -41,7 +41,7 @@ impl<K: Kind> Model for HeldCells<K> {
       left = c.left;
     } };
 
-    ghost invariant = { λ c. AreParts K.stands (record { small = K.small_of; from_small = K.held_of_small; fresh = K.fresh_held })
+    ghost invariant = { λ c. AreHeldParts K.stands (record { small = K.small_of; from_small = K.held_of_small; fresh = K.fresh_held })
         (record { bytes = c.bytes.items; side = c.side.entries; spare = spare c.side; due = c.due; left = c.left }) };
 }
 

@@ -13,7 +13,7 @@ use Rattle.push_history.specs.Updates.{updates_of}
 use Rattle.push_history.proofs.Sharing.{updates_len}
 use Rattle.given_law.specs.Given.{given_messages}
 use Rattle.push_replay.specs.declared.replay.Fault.{Fault}
-use Rattle.push_replay.specs.Replays.{IsFirst}
+use Rattle.push_replay.specs.Replays.{IsFirstFault}
 use Rattle.octo_text.specs.Content.{content_of}
 use Rattle.octo_text.specs.declared.journal.Journal.{Journal}
 use Rattle.audit_law.specs.WorkerTests.{given_by, refused_by}
@@ -41,10 +41,10 @@ module _ (packets : List Packet) (j : Journal) (w : ℕ) (bits : List Bool) (at 
       ∙ ap (given_messages (rules_in j.options) w j.options.threshold (updates_by_options packets j.options w)) (sym (refused_at j w bits at))
 
   pub first_is : (fault : Option Fault) (lane : ℕ) (share : List ℕ) → share ≡ share_of_worker j.options.share j.options.workers packets w → lane ≡ j.options.lane
-      → IsFirst r w j.options.threshold lane (updates_of r j.options.shape packets share) (marked bits) fault
-      → IsFirst (rules_in j.options) w j.options.threshold j.options.lane (updates_by_options packets j.options w) (refused_by (content_of j) w) fault
+      → IsFirstFault r w j.options.threshold lane (updates_of r j.options.shape packets share) (marked bits) fault
+      → IsFirstFault (rules_in j.options) w j.options.threshold j.options.lane (updates_by_options packets j.options w) (refused_by (content_of j) w) fault
   first_is fault lane share is lane_is first =
-      subst (λ (F : List ℕ). IsFirst (rules_in j.options) w j.options.threshold j.options.lane (updates_by_options packets j.options w) F fault) (sym (refused_at j w bits at))
-      (subst (λ (us : List Update). IsFirst (rules_in j.options) w j.options.threshold j.options.lane us (marked bits) fault) (updates_in packets j.options w r same share is)
-      (subst (λ (L : ℕ). IsFirst (rules_in j.options) w j.options.threshold L (updates_of r j.options.shape packets share) (marked bits) fault) lane_is
-      (subst (λ (s : Rules). IsFirst s w j.options.threshold lane (updates_of r j.options.shape packets share) (marked bits) fault) same first)))
+      subst (λ (F : List ℕ). IsFirstFault (rules_in j.options) w j.options.threshold j.options.lane (updates_by_options packets j.options w) F fault) (sym (refused_at j w bits at))
+      (subst (λ (us : List Update). IsFirstFault (rules_in j.options) w j.options.threshold j.options.lane us (marked bits) fault) (updates_in packets j.options w r same share is)
+      (subst (λ (L : ℕ). IsFirstFault (rules_in j.options) w j.options.threshold L (updates_of r j.options.shape packets share) (marked bits) fault) lane_is
+      (subst (λ (s : Rules). IsFirstFault s w j.options.threshold lane (updates_of r j.options.shape packets share) (marked bits) fault) same first)))

@@ -14,7 +14,7 @@ use Rattle.push_history.specs.Told.{messages_before}
 use Rattle.given_law.specs.Given.{given_messages, given_before}
 use Rattle.given_law.proofs.Determined.{before_back, distance_back}
 use Rattle.push_replay.specs.declared.replay.Fault.TheVariants.{TooNear, TooFew}
-use Rattle.push_replay.specs.Replays.{AreFine, IsFirst, distance_given}
+use Rattle.push_replay.specs.Replays.{AreFine, IsFirstFault, distance_given}
 use Rattle.audit_law.specs.declared.failure.Failure.{Failure}
 use Rattle.audit_law.specs.declared.failure.Value.TheVariants.{Number}
 use Rattle.audit_law.specs.Tests.{Test, test, first_failing}
@@ -97,7 +97,7 @@ module _ (o : Options) (w : ℕ) (U : List Update) (F : List ℕ) (line : ℕ �
       (hold_cons _ _ (le-leb o.threshold (distance_at (rules_in o) U S k) (omega (arith, is.0, distance_is k within)))
       (hold_cons _ _ (le-leb o.lane (length (messages_before k S)) (omega (arith, is.1, before_is k within))) hold_nil))
 
-  pub near_fails : (k d : ℕ) → IsFirst (rules_in o) w o.threshold o.lane U F (Some (TooNear k d))
+  pub near_fails : (k d : ℕ) → IsFirstFault (rules_in o) w o.threshold o.lane U F (Some (TooNear k d))
       → first_failing (flat_map tests F) ≡ Some (record { line = line k; kept = Number d; lawful = Number o.threshold })
   unfolding refused_tests
   near_fails k d h =
@@ -107,7 +107,7 @@ module _ (o : Options) (w : ℕ) (U : List Update) (F : List ℕ) (line : ℕ �
       ∙ failing_head (second_test k) (third_test k ∷ []) (lt-leb o.threshold (distance_at (rules_in o) U S k) (omega (arith, same, h.4)))
       ∙ ap (λ (n : ℕ). Some (record { line = line k; kept = Number n; lawful = Number o.threshold })) (sym same))
 
-  pub few_fails : (k n : ℕ) → IsFirst (rules_in o) w o.threshold o.lane U F (Some (TooFew k n))
+  pub few_fails : (k n : ℕ) → IsFirstFault (rules_in o) w o.threshold o.lane U F (Some (TooFew k n))
       → first_failing (flat_map tests F) ≡ Some (record { line = line k; kept = Number n; lawful = Number o.lane })
   unfolding refused_tests
   few_fails k n h =
@@ -118,7 +118,7 @@ module _ (o : Options) (w : ℕ) (U : List Update) (F : List ℕ) (line : ℕ �
       ∙ failing_head (third_test k) [] (lt-leb o.lane (length (messages_before k S)) (omega (arith, same, h.5)))
       ∙ ap (λ (m : ℕ). Some (record { line = line k; kept = Number m; lawful = Number o.lane })) (sym same))
 
-  pub past_fails : (k : ℕ) → IsFirst (rules_in o) w o.threshold o.lane U F None → IsFirstPast F (length U) k
+  pub past_fails : (k : ℕ) → IsFirstFault (rules_in o) w o.threshold o.lane U F None → IsFirstPast F (length U) k
       → first_failing (flat_map tests F) ≡ Some (record { line = line k; kept = Number k; lawful = Number (length U) })
   unfolding refused_tests
   past_fails k fine first =
@@ -129,7 +129,7 @@ module _ (o : Options) (w : ℕ) (U : List Update) (F : List ℕ) (line : ℕ �
       before i lt its (inl within) = fine_holds (length U) i (omega arith) within fine its
       before i lt its (inr past) = absurd (true≢false (sym its ∙ first.none i past lt))
 
-  pub none_fails : IsFirst (rules_in o) w o.threshold o.lane U F None → NonePast F (length U) → first_failing (flat_map tests F) ≡ None
+  pub none_fails : IsFirstFault (rules_in o) w o.threshold o.lane U F None → NonePast F (length U) → first_failing (flat_map tests F) ≡ None
   none_fails fine none = (none_failing tests F (λ i its. each i its (cases_lt i (length U)))).none
     where
       each : (i : ℕ) → is_refused i F ≡ true → (i < length U) ⊎ (length U ≤ i) → Hold (tests i)
@@ -137,7 +137,7 @@ module _ (o : Options) (w : ℕ) (U : List Update) (F : List ℕ) (line : ℕ �
       each i its (inr past) = absurd (true≢false (sym its ∙ none i past))
 
   -- the refused updates that are none of the worker's
-  pub past_then : (n : ℕ) (result : Option Failure) → n ≡ length U → IsFirst (rules_in o) w o.threshold o.lane U F None
+  pub past_then : (n : ℕ) (result : Option Failure) → n ≡ length U → IsFirstFault (rules_in o) w o.threshold o.lane U F None
       → MatchOption result (NonePast F n) (λ failure. (k : ℕ) × IsFirstPast F n k × (failure ≡ record { line = line k; kept = Number k; lawful = Number n }))
       → result ≡ first_failing (flat_map tests F)
   past_then n None is fine none = sym (none_fails fine (subst (NonePast F) is none))

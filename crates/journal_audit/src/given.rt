@@ -4,7 +4,7 @@ ghost use Rattle.octo_text.specs.Content.{content_of};
 ghost use Rattle.shares.specs.Owners.{AreOwners};
 ghost use Rattle.audit_law.specs.Tests.{first_failing};
 ghost use Rattle.audit_law.specs.WorkerTests.{all_given, all_worker_tests, given_by, worker_tests};
-ghost use Rattle.octo_text.specs.Readable.{HasWorkers, IsShort};
+ghost use Rattle.octo_text.specs.Readable.{HasWorkers, HasCountableLines};
 
 use crate::workers::worker_failure;
 use audit_law::Failure;
@@ -39,7 +39,7 @@ pub fn given_of<K: Kind>(
     requires lawful { IsLawful journal.now.options }
     requires sketch { journal.now.options.sketch ≡ K.sketch }
     requires few { length packets.now ≤ 16777216 }
-    requires short { IsShort journal.now }
+    requires short { HasCountableLines journal.now }
     requires workers { HasWorkers journal.now }
     ensures failure { IfOk result (λ given. given.failure
         ≡ first_failing (all_worker_tests packets.now journal.now.options (content_of journal.now))) }
@@ -75,7 +75,7 @@ fn given_worker<K: Kind>(
     requires lawful { IsLawful journal.now.options }
     requires sketch { journal.now.options.sketch ≡ K.sketch }
     requires few { length packets.now ≤ 16777216 }
-    requires short { IsShort journal.now }
+    requires short { HasCountableLines journal.now }
     requires workers { HasWorkers journal.now }
     requires owners { AreOwners journal.now.options packets.now owners.now }
     requires worker { worker < journal.now.options.workers }

@@ -2,7 +2,7 @@ ghost use Rattle.std.specs.Prelude.{◌≡◌, ◌+◌, ◌<◌, ◌≤◌, ◌*
 ghost use Rattle.hash_rows.specs.Marks.{marked};
 ghost use Rattle.octo_text.specs.Content.{content_of};
 ghost use Rattle.audit_law.specs.LineNumbers.{lines_of_worker, refused_line, worker_line};
-ghost use Rattle.octo_text.specs.Readable.{IsShort};
+ghost use Rattle.octo_text.specs.Readable.{HasCountableLines};
 
 use crate::runs::{count_runs, count_runs_until};
 use hash_rows::Bits;
@@ -25,7 +25,7 @@ fn line_behind(watched: u32, refused: &[Bits]) -> u32
 
 /// The line of the worker, or that behind all of them.
 pub fn line_of_worker(journal: &Journal, worker: u32) -> u32
-    requires short { IsShort journal.now }
+    requires short { HasCountableLines journal.now }
     requires worker { worker ≤ length journal.now.lists.refused.items }
     ensures line { result ≡ worker_line (content_of journal.now) worker }
     ensures most { result ≤ 2147483700 }
@@ -36,7 +36,7 @@ pub fn line_of_worker(journal: &Journal, worker: u32) -> u32
 
 /// The line of the run that a refused update of the worker is in.
 pub fn line_of_refused(journal: &Journal, worker: u32, update: u32) -> u32
-    requires short { IsShort journal.now }
+    requires short { HasCountableLines journal.now }
     requires worker { worker < length journal.now.lists.refused.items }
     ensures { result ≡ refused_line (content_of journal.now) worker update }
 {

@@ -1,13 +1,13 @@
 ghost use Rattle.std.specs.Prelude.{◌≡◌, ◌<◌, ◌≤◌, ◌*◌, ◌+◌, ℕ, List, Some, length, if◌then◌else◌, MatchOption};
 ghost use Rattle.hash_rows.specs.declared.shape.Packet.{Packet};
 ghost use Rattle.push_history.specs.Journal.{rules_in, updates_by_options};
-ghost use Rattle.push_replay.specs.Replays.{IsFirst};
+ghost use Rattle.push_replay.specs.Replays.{IsFirstFault};
 ghost use Rattle.octo_text.specs.Content.{content_of};
 ghost use Rattle.audit_law.specs.Tests.{first_failing};
 ghost use Rattle.audit_law.specs.WorkerTests.{all_refused_tests, given_by, is_wait, refused_by, worker_tests};
 ghost use Rattle.audit_law.specs.LineNumbers.{refused_line};
 ghost use Rattle.audit_law.specs.declared.failure.Value.{Value};
-ghost use Rattle.octo_text.specs.Readable.{IsShort};
+ghost use Rattle.octo_text.specs.Readable.{HasCountableLines};
 ghost use Rattle.journal_audit.specs.Past.{IsFirstPast, NonePast};
 
 use crate::lines::{line_of_refused, line_of_worker};
@@ -25,12 +25,12 @@ pub fn worker_failure(
     fault: Option<Fault>,
     updates: u32,
 ) -> Option<Failure>
-    requires short { IsShort journal.now }
+    requires short { HasCountableLines journal.now }
     requires worker { worker < length journal.now.lists.refused.items }
     requires pushes { worker < length journal.now.lists.pushes.items }
     ensures { (packets : List Packet) → let o = journal.now.options in let j = content_of journal.now in
         sent.now ≡ given_by packets o j worker → updates ≡ length (updates_by_options packets o worker)
-        → IsFirst (rules_in o) worker o.threshold o.lane (updates_by_options packets o worker) (refused_by j worker) fault
+        → IsFirstFault (rules_in o) worker o.threshold o.lane (updates_by_options packets o worker) (refused_by j worker) fault
         → result ≡ first_failing (worker_tests packets o j worker) }
 {
     let pushes = *journal.lists.pushes.get(worker);
@@ -71,11 +71,11 @@ fn refused_failure(
     fault: Option<Fault>,
     updates: u32,
 ) -> Option<Failure>
-    requires short { IsShort journal.now }
+    requires short { HasCountableLines journal.now }
     requires worker { worker < length journal.now.lists.refused.items }
     ensures { (packets : List Packet) → let o = journal.now.options in let j = content_of journal.now in
         updates ≡ length (updates_by_options packets o worker)
-        → IsFirst (rules_in o) worker o.threshold o.lane (updates_by_options packets o worker) (refused_by j worker) fault
+        → IsFirstFault (rules_in o) worker o.threshold o.lane (updates_by_options packets o worker) (refused_by j worker) fault
         → result ≡ first_failing (all_refused_tests packets o j worker) }
 {
     match fault {
@@ -86,10 +86,10 @@ fn refused_failure(
 
 // What is wrong with the first refused update that may not be one.
 fn fault_failure(journal: &Journal, worker: u32, fault: Fault) -> Failure
-    requires short { IsShort journal.now }
+    requires short { HasCountableLines journal.now }
     requires worker { worker < length journal.now.lists.refused.items }
     ensures { (packets : List Packet) → let o = journal.now.options in let j = content_of journal.now in
-        IsFirst (rules_in o) worker o.threshold o.lane (updates_by_options packets o worker) (refused_by j worker) (Some fault)
+        IsFirstFault (rules_in o) worker o.threshold o.lane (updates_by_options packets o worker) (refused_by j worker) (Some fault)
         → Some result ≡ first_failing (all_refused_tests packets o j worker) }
 {
     match fault {
@@ -108,7 +108,7 @@ fn fault_failure(journal: &Journal, worker: u32, fault: Fault) -> Failure
 
 // The first refused update that is none of the worker's.
 fn past_failure(journal: &Journal, worker: u32, updates: u32) -> Option<Failure>
-    requires short { IsShort journal.now }
+    requires short { HasCountableLines journal.now }
     requires worker { worker < length journal.now.lists.refused.items }
     ensures { let j = content_of journal.now in MatchOption result (NonePast (refused_by j worker) updates)
         (λ failure. (k : ℕ) × IsFirstPast (refused_by j worker) updates k

@@ -31,7 +31,7 @@ pub record Draft : Type 0 where
 
 -- the answer that is to come is the one at this place, with a front number for each worker and an estimate for each asked
 -- key, each in the range of its type
-pub record IsAnswerAt (o : Options) (place : ℕ) (a : AnswerParts) : Type 0 where
+pub record IsAnswerInTurn (o : Options) (place : ℕ) (a : AnswerParts) : Type 0 where
   pub reader : a.reader ≡ place / o.asks
   pub number : a.number ≡ place % o.asks
   pub folded : a.folded < 2 ^ 64
@@ -41,7 +41,7 @@ pub record IsAnswerAt (o : Options) (place : ℕ) (a : AnswerParts) : Type 0 whe
   pub shown : All (λ x. mag x < 2 ^ 63) a.shown
 
 -- each worker was told of, with all its refused updates
-pub record HasWorkers (d : Draft) : Type 0 where
+pub record HasToldWorkers (d : Draft) : Type 0 where
   pub listing : d.stage ≡ Listing
   pub workers : length d.told.pushes ≡ d.told.options.workers
   pub due : d.due ≡ 0
@@ -60,11 +60,11 @@ MayFollow d (Run worker first last) =
     (d.stage ≡ Listing) × (worker + 1 ≡ length d.told.pushes) × (d.least ≤ first) × (first ≤ last) × (last < 2 ^ 27)
     × (last + 1 - first ≤ d.due)
 MayFollow d (Answered a) =
-    HasWorkers d × (length d.told.answers < d.told.options.readers * d.told.options.asks)
-    × IsAnswerAt d.told.options (length d.told.answers) a
+    HasToldWorkers d × (length d.told.answers < d.told.options.readers * d.told.options.asks)
+    × IsAnswerInTurn d.told.options (length d.told.answers) a
 MayFollow d (Live k) =
-    HasWorkers d × (length d.told.answers ≡ d.told.options.readers * d.told.options.asks) × IsKey k × (length d.told.live < 1024)
-MayFollow d (Missed n) = HasWorkers d × (length d.told.answers ≡ d.told.options.readers * d.told.options.asks) × (n < 2 ^ 64)
+    HasToldWorkers d × (length d.told.answers ≡ d.told.options.readers * d.told.options.asks) × IsKey k × (length d.told.live < 1024)
+MayFollow d (Missed n) = HasToldWorkers d × (length d.told.answers ≡ d.told.options.readers * d.told.options.asks) × (n < 2 ^ 64)
 MayFollow d End = d.stage ≡ Counted
 
 -- more numbers in the last list

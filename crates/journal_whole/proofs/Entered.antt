@@ -13,7 +13,7 @@ use Rattle.hash_rows.specs.Marks.{marked}
 use Rattle.hash_rows.specs.declared.options.Options.{Options}
 use Rattle.push_history.specs.Answers.{AnswerParts, parts_of}
 use Rattle.journal_read.specs.Answers.{IsAnswerOf, IsSameAsked}
-use Rattle.journal_read.specs.Drafts.{MayFollow, in_last, IsAnswerAt}
+use Rattle.journal_read.specs.Drafts.{MayFollow, in_last, IsAnswerInTurn}
 use Rattle.journal_read.specs.Entries.{line_of, Watched, Worker, Run, Answered, Live, Missed, End}
 use Rattle.journal_whole.specs.declared.reading.Place.TheVariants.{Lists, Tallied, Complete}
 use Rattle.journal_whole.specs.declared.reading.Reading.{Reading}
@@ -62,7 +62,7 @@ with_run r rows w a b line may put is = record {
 
 -- an answer of the line that is to come
 pub answer_at : (o : Options) (place : ℕ) (a : Answer) → IsNextAnswer o place a → a.folded < 2 ^ 64 → All (λ n. n ≤ 2 ^ 27) a.front.items → All (λ x. mag x < 2 ^ 63) a.shown.items
-    → IsAnswerAt o place (parts_of a)
+    → IsAnswerInTurn o place (parts_of a)
 unfolding parts_of
 answer_at o place a next folded front shown =
     record { reader = next.reader; number = next.number; folded = folded; front_len = next.front; front = front; shown_len = next.shown; shown = shown }
@@ -78,7 +78,7 @@ next_still o place old new same next = record {
   shown = same.shown ∙ next.shown;
 }
 
-pub answer_of : (o : Options) (place : ℕ) (old : Answer) (a : AnswerParts) → IsNextAnswer o place old → IsAnswerAt o place a
+pub answer_of : (o : Options) (place : ℕ) (old : Answer) (a : AnswerParts) → IsNextAnswer o place old → IsAnswerInTurn o place a
     → IsAnswerOf old.reader old.number (length old.front.items) (length old.shown.items) a
 answer_of o place old a next at = record {
   reader = at.reader ∙ sym next.reader;
@@ -93,7 +93,7 @@ answer_of o place old a next at = record {
 }
 
 pub answer_back : (o : Options) (answers : List Answer) (place : ℕ) (a : AnswerParts) → place ≡ length answers
-    → IsAnswerAt (record o { journal = true }) (length (map parts_of answers)) a → IsAnswerAt o place a
+    → IsAnswerInTurn (record o { journal = true }) (length (map parts_of answers)) a → IsAnswerInTurn o place a
 answer_back o answers place a first at = record {
   reader = at.reader ∙ ap (λ (n : ℕ). n / o.asks) same;
   number = at.number ∙ ap (λ (n : ℕ). n % o.asks) same;
@@ -115,7 +115,7 @@ front_small new a is small = subst (λ (p : AnswerParts). All (λ n. n ≤ 2 ^ 2
 pub with_answer : (r : Reading) (answers : Listed Answer) (a : Answer) (place : ℕ) (line : List ℕ) → r.place ≡ Lists → r.due ≡ 0
     → length r.journal.lists.pushes.items ≡ r.journal.options.workers → place ≡ length r.journal.lists.answers.items
     → length r.journal.lists.answers.items < r.journal.options.readers * r.journal.options.asks
-    → IsAnswerAt r.journal.options place (parts_of a)
+    → IsAnswerInTurn r.journal.options place (parts_of a)
     → answers.items ≡ r.journal.lists.answers.items ++ a ∷ [] → line ≡ line_of (Answered (parts_of a))
     → Reads (draft_of r) (draft_of (record r { journal = record r.journal { lists = record r.journal.lists { answers = answers } } })) line
 with_answer r answers a place line at none all first more next put is = record {

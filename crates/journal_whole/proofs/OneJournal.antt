@@ -5,7 +5,7 @@ use Rattle.packet_key.specs.declared.key.FlowKey.{FlowKey}
 use Rattle.hash_rows.specs.declared.options.Options.{Options}
 use Rattle.push_history.specs.Answers.{AnswerParts}
 use Rattle.push_history.specs.Journal.{Journal}
-use Rattle.journal_read.specs.Drafts.{Draft, Stage, MayFollow, HasWorkers, read_on, with_watched, Nothing, Titled, Listing, Counted, Ended}
+use Rattle.journal_read.specs.Drafts.{Draft, Stage, MayFollow, HasToldWorkers, read_on, with_watched, Nothing, Titled, Listing, Counted, Ended}
 use Rattle.journal_read.specs.Entries.{Entry, line_of, Head, Terms, Watched, Worker, Run, Answered, Live, Missed, End}
 use Rattle.journal_read.specs.Reading.{Leads, IsFresh, IsJournal}
 use Rattle.journal_whole.proofs.Judging.{rank, not_both}
@@ -58,7 +58,7 @@ read_beside d o m End = refl
 listed : (d : Draft) (o : Options) (m : ℕ) → IsSettled d o m → d.stage ≡ Listing → o ≡ d.told.options
 listed d o m settled at = settled.options (omega (arith, ap rank at))
 
-workers_so : (d : Draft) (m : ℕ) → HasWorkers (beside d d.told.options m) → HasWorkers d
+workers_so : (d : Draft) (m : ℕ) → HasToldWorkers (beside d d.told.options m) → HasToldWorkers d
 workers_so d m has = record { listing = has.listing; workers = has.workers; due = has.due }
 
 pub may_beside : (d : Draft) (o : Options) (m : ℕ) (e : Entry) → IsSettled d o m → MayFollow (beside d o m) e → MayFollow d e

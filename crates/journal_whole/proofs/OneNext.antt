@@ -5,7 +5,7 @@ use Rattle.push_history.specs.Answers.{AnswerParts}
 use Rattle.hash_rows.specs.declared.options.Options.{Options}
 use Rattle.octo_text.specs.Lines.{words_line, count_line, key_line}
 use Rattle.octo_text.specs.JournalText.{worker_line, run_line, answer_line, options_line}
-use Rattle.journal_read.specs.Drafts.{Draft, MayFollow, IsAnswerAt}
+use Rattle.journal_read.specs.Drafts.{Draft, MayFollow, IsAnswerInTurn}
 use Rattle.journal_read.specs.Entries.{Entry, line_of, Head, Terms, Watched, Worker, Run, Answered, Live, Missed, End}
 use Rattle.journal_whole.proofs.OneLine.{worker_cut, run_cut, missed_cut, key_cut, answer_cut, AreAsked, Fits}
 use Rattle.journal_whole.proofs.OneTerms.{options_cut}
@@ -41,7 +41,7 @@ same_mark : (e f : Entry) (x y : List ℕ) → line_of e ++ x ≡ line_of f ++ y
 same_mark e f x y is = sym (marked_so e x) ∙ ap first_two is ∙ marked_so f y
 
 -- the answers at one place
-asked_at : (o : Options) (place : ℕ) (a b : AnswerParts) → IsAnswerAt o place a → IsAnswerAt o place b → AreAsked a b
+asked_at : (o : Options) (place : ℕ) (a b : AnswerParts) → IsAnswerInTurn o place a → IsAnswerInTurn o place b → AreAsked a b
 asked_at o place a b at₁ at₂ = record {
   reader = at₁.reader ∙ sym at₂.reader;
   number = at₁.number ∙ sym at₂.number;
@@ -49,7 +49,7 @@ asked_at o place a b at₁ at₂ = record {
   shown = at₁.shown_len ∙ sym at₂.shown_len;
 }
 
-fits_at : (o : Options) (place : ℕ) (a : AnswerParts) → IsAnswerAt o place a → Fits a
+fits_at : (o : Options) (place : ℕ) (a : AnswerParts) → IsAnswerInTurn o place a → Fits a
 fits_at o place a at = record {
   folded = at.folded;
   front = λ k d lt. let small = at.front k d lt in omega (arith, small);

@@ -4,7 +4,7 @@ ghost use Rattle.push_history.specs.Answers.{AnswerParts, parts_of};
 ghost use Rattle.push_history.specs.Journal.{keys_of};
 ghost use Rattle.hash_rows.specs.declared.options.Options.{Options as OptionsView};
 ghost use Rattle.octo_text.specs.Content.{FitsLine};
-ghost use Rattle.journal_read.specs.Drafts.{IsAnswerAt};
+ghost use Rattle.journal_read.specs.Drafts.{IsAnswerInTurn};
 ghost use Rattle.journal_read.specs.Entries.{line_of, Answered};
 ghost use Rattle.journal_whole.specs.Drafted.{draft_of, HasRooms, IsNextAnswer, IsProper};
 ghost use Rattle.journal_whole.specs.Steps.{Judges};
@@ -67,10 +67,10 @@ fn read_next(line: &[u8], answer: &mut Answer) -> bool
     requires { FitsLine answer.old }
     ensures next { (o : OptionsView) (place : ℕ) → IsNextAnswer o place answer.old → IsNextAnswer o place answer.new }
     ensures yes { result ≡ true → (o : OptionsView) (place : ℕ) → IsNextAnswer o place answer.old
-        → IsAnswerAt o place (parts_of answer.new) }
+        → IsAnswerInTurn o place (parts_of answer.new) }
     ensures line { result ≡ true → line.now ≡ line_of (Answered (parts_of answer.new)) }
     ensures no { result ≡ false → (o : OptionsView) (place : ℕ) → IsNextAnswer o place answer.old
-        → (a : AnswerParts) → IsAnswerAt o place a → line.now ≢ line_of (Answered a) }
+        → (a : AnswerParts) → IsAnswerInTurn o place a → line.now ≢ line_of (Answered a) }
 {
     let read = read_answer(line, answer);
     count_fits(answer.folded);

@@ -29,77 +29,77 @@ use Rattle.bracket.proofs.Counted.{front_within, near_at}
 use Rattle.live_state.specs.Fold.{StateView, absorbed}
 use Rattle.lag_core.specs.declared.shown.ShownState.{ShownState}
 use Rattle.lag_core.specs.declared.worker.LagWorker.{LagWorker}
-use Rattle.lag_core.specs.Workers.{CanTakeUp, IsWorkerAt, Limits, terms_of}
-use Rattle.lag_core.specs.Lags.{Core, HasRun, IsCoreAt, Steps, refused_by_each, run_state, sent_by_each, shape_of, shown_messages, workers_of}
+use Rattle.lag_core.specs.Workers.{CanTakeUp, IsWorkerAt, Limits, terms_within}
+use Rattle.lag_core.specs.Lags.{Core, IsCoreAfter, IsCoreAt, Steps, refused_by_each, run_state, sent_by_each, shape_of, shown_messages, workers_of}
 use Rattle.lag_core.proofs.Counting.{held_is}
 use Rattle.lag_core.proofs.Reading.{cell_is, estimate_is, live_at, live_within}
 use Rattle.lag_core.proofs.CoreSteps.{ask_steps, can_take_up, front_long, publish_steps, seen_long, take_none, take_one, update_steps, upto_long}
 
 module _ {K H : Type 0} (stands : H → ℤ → ℤ → Type 0) (r : Rules) (v o : Core K H) (same : v ≡ o) where
   -- what holds of what the core holds, for all events, holds of what its caller sees
-  seen_as : (P : Core K H → State → Type 0) → ((events : List Event) → HasRun stands r v events → P v (run_state r v events)) → (events : List Event) → HasRun stands r o events → P o (run_state r o events)
-  seen_as P all = subst (λ (z : Core K H). (events : List Event) → HasRun stands r z events → P z (run_state r z events)) same all
+  seen_as : (P : Core K H → State → Type 0) → ((events : List Event) → IsCoreAfter stands r v events → P v (run_state r v events)) → (events : List Event) → IsCoreAfter stands r o events → P o (run_state r o events)
+  seen_as P all = subst (λ (z : Core K H). (events : List Event) → IsCoreAfter stands r z events → P z (run_state r z events)) same all
 
-  pub front_read : (w x : ℕ) → slice_get v.shown.front.items w ≡ Some x → (events : List Event) → HasRun stands r o events → x ≡ get_or (front_of (workers_of o) (shown_messages (run_state r o events))) w 0
+  pub front_read : (w x : ℕ) → slice_get v.shown.front.items w ≡ Some x → (events : List Event) → IsCoreAfter stands r o events → x ≡ get_or (front_of (workers_of o) (shown_messages (run_state r o events))) w 0
   front_read w x at = seen_as (λ z s. x ≡ get_or (front_of (workers_of z) (shown_messages s)) w 0)
       (λ events h. sym (get_or_from_slice_get v.shown.front.items w x 0 at) ∙ ap (λ (l : List ℕ). get_or l w 0) h.shown.front ∙ ap (λ (n : ℕ). get_or (front_of n (shown_messages (run_state r v events))) w 0) h.fit.fronts)
 
-  pub upto_read : (w x : ℕ) → slice_get v.shown.upto.items w ≡ Some x → (events : List Event) → HasRun stands r o events → x ≡ get_or (uptos_of (workers_of o) (shown_messages (run_state r o events))) w 0
+  pub upto_read : (w x : ℕ) → slice_get v.shown.upto.items w ≡ Some x → (events : List Event) → IsCoreAfter stands r o events → x ≡ get_or (uptos_of (workers_of o) (shown_messages (run_state r o events))) w 0
   upto_read w x at = seen_as (λ z s. x ≡ get_or (uptos_of (workers_of z) (shown_messages s)) w 0)
       (λ events h. sym (get_or_from_slice_get v.shown.upto.items w x 0 at) ∙ ap (λ (l : List ℕ). get_or l w 0) h.shown.upto ∙ ap (λ (n : ℕ). get_or (uptos_of n (shown_messages (run_state r v events))) w 0) h.fit.fronts)
 
   pub seen_read : (q w x : ℕ) (front : Listed ℕ) → slice_get v.seen q ≡ Some front → slice_get front.items w ≡ Some x
-      → (events : List Event) → HasRun stands r o events → x ≡ get_or (front_of (workers_of o) (take (get_or (run_state r o events).seen q 0) (run_state r o events).folded)) w 0
+      → (events : List Event) → IsCoreAfter stands r o events → x ≡ get_or (front_of (workers_of o) (take (get_or (run_state r o events).seen q 0) (run_state r o events).folded)) w 0
   seen_read q w x front at_q at = seen_as (λ z s. x ≡ get_or (front_of (workers_of z) (take (get_or s.seen q 0) s.folded)) w 0)
       (λ events h. sym (get_or_from_slice_get front.items w x 0 at) ∙ ap (λ (l : List ℕ). get_or l w 0) (h.seen q front at_q))
 
   module _ (laws : AreLaws r) (own : v.shape ≡ shape_of v) where
     pub shown_read : (cell : ℕ) → cell < size_of o.shape → (z : ℤ) → z ≡ get_or v.shown.table.cells cell (pos 0)
-        → (events : List Event) → HasRun stands r o events → z ≡ shown_of r (sent_by_each (run_state r o events)) (front_of (workers_of o) (shown_messages (run_state r o events))) cell
+        → (events : List Event) → IsCoreAfter stands r o events → z ≡ shown_of r (sent_by_each (run_state r o events)) (front_of (workers_of o) (shown_messages (run_state r o events))) cell
     shown_read cell below z is = seen_as (λ y s. z ≡ shown_of r (sent_by_each s) (front_of (workers_of y) (shown_messages s)) cell)
         (λ events h. is ∙ cell_is stands r v (run_state r v events) h laws cell (subst (λ (x : Shape). cell < size_of x) own (subst (λ (y : Core K H). cell < size_of y.shape) (sym same) below)))
 
-    pub estimate_read : (key : FlowKey) (z : ℤ) → z ≡ r.estimate v.shown.table.shape v.shown.table.cells key → (events : List Event) → HasRun stands r o events
+    pub estimate_read : (key : FlowKey) (z : ℤ) → z ≡ r.estimate v.shown.table.shape v.shown.table.cells key → (events : List Event) → IsCoreAfter stands r o events
         → z ≡ r.estimate o.shape (shown_cells r o.shape (sent_by_each (run_state r o events)) (front_of (workers_of o) (shown_messages (run_state r o events)))) key
     estimate_read key z is = seen_as (λ y s. z ≡ r.estimate y.shape (shown_cells r y.shape (sent_by_each s) (front_of (workers_of y) (shown_messages s))) key)
         (λ events h. subst (λ (x : Shape). z ≡ r.estimate x (shown_cells r x (sent_by_each (run_state r v events)) (front_of (workers_of v) (shown_messages (run_state r v events)))) key) (sym own)
         (is ∙ estimate_is stands r v (run_state r v events) h laws key))
 
     -- for Count-Min an answer is near the true estimate
-    pub near_read : (key : FlowKey) (z : ℤ) → z ≡ r.estimate v.shown.table.shape v.shown.table.cells key → r ≡ count_min → AreAmounts o.limits.updates → (events : List Event) → HasRun stands r o events
+    pub near_read : (key : FlowKey) (z : ℤ) → z ≡ r.estimate v.shown.table.shape v.shown.table.cells key → r ≡ count_min → AreAmounts o.limits.updates → (events : List Event) → IsCoreAfter stands r o events
         → IsNear o.limits.threshold o.limits.updates (sent_by_each (run_state r o events)) (refused_by_each (run_state r o events)) (front_of (workers_of o) (shown_messages (run_state r o events))) o.shape key z
     near_read key z is rules amounts events at =
         let s = run_state r o events in
         let front = front_of (workers_of o) (shown_messages s) in
         subst (λ (y : ℤ). IsNear o.limits.threshold o.limits.updates (sent_by_each s) (refused_by_each s) front o.shape key y)
         (sym (estimate_read key z is events at ∙ ap (λ (q : Rules). q.estimate o.shape (shown_cells q o.shape (sent_by_each s) front) key) rules))
-        (near_at (terms_of r o.limits) s at.lawful rules (are_plain o.limits.updates amounts) front (front_within (terms_of r o.limits) s at.lawful s.shown) o.shape key)
+        (near_at (terms_within r o.limits) s at.lawful rules (are_plain o.limits.updates amounts) front (front_within (terms_within r o.limits) s at.lawful s.shown) o.shape key)
 
-  pub live_read : v.shape ≡ shape_of v → (place : ℕ) (key : FlowKey) → place < o.shown.live → slice_get v.fold.heavy.keys place ≡ Some key → (events : List Event) → HasRun stands r o events
+  pub live_read : v.shape ≡ shape_of v → (place : ℕ) (key : FlowKey) → place < o.shown.live → slice_get v.fold.heavy.keys place ≡ Some key → (events : List Event) → IsCoreAfter stands r o events
       → slice_get (live_keys r o.shape o.fold.heavy.limit o.fold.heavy.least (shown_messages (run_state r o events))) place ≡ Some key
   live_read own place key below at = seen_as (λ y s. slice_get (live_keys r y.shape y.fold.heavy.limit y.fold.heavy.least (shown_messages s)) place ≡ Some key)
       (λ events h. subst (λ (x : Shape). slice_get (live_keys r x v.fold.heavy.limit v.fold.heavy.least (shown_messages (run_state r v events))) place ≡ Some key) (sym own)
       (live_at stands r v (run_state r v events) h place key (subst (λ (y : Core K H). place < y.shown.live) (sym same) below) at))
 
   module _ (w : ℕ) (d : LagWorker K H) (at : slice_get v.workers w ≡ Some d) where
-    pub queued_read : (n : ℕ) → n ≡ length d.counter.queue - d.counter.taken → (events : List Event) → HasRun stands r o events
+    pub queued_read : (n : ℕ) → n ≡ length d.counter.queue - d.counter.taken → (events : List Event) → IsCoreAfter stands r o events
         → n ≡ length (worker_in (run_state r o events) w).sent - (worker_in (run_state r o events) w).taken
     queued_read n is = seen_as (λ _ s. n ≡ length (worker_in s w).sent - (worker_in s w).taken)
-        (λ events h. is ∙ held_is stands (terms_of r v.limits) w d (worker_in (run_state r v events) w) (h.each w d at))
+        (λ events h. is ∙ held_is stands (terms_within r v.limits) w d (worker_in (run_state r v events) w) (h.each w d at))
 
     pub residue_read : (cell : ℕ) (z : ℤ) → ((t : Terms) (k : ℕ) (x : Worker) → t.rules ≡ r → Keeps stands t k d.counter x → z ≡ residue t.rules (updates_by t k) x.sent x.counted cell)
-        → (events : List Event) → HasRun stands r o events
-        → z ≡ residue r (updates_by (terms_of r o.limits) w) (worker_in (run_state r o events) w).sent (worker_in (run_state r o events) w).counted cell
-    residue_read cell z is = seen_as (λ y s. z ≡ residue r (updates_by (terms_of r y.limits) w) (worker_in s w).sent (worker_in s w).counted cell)
-        (λ events h. is (terms_of r v.limits) w (worker_in (run_state r v events) w) refl (h.each w d at).keeps)
+        → (events : List Event) → IsCoreAfter stands r o events
+        → z ≡ residue r (updates_by (terms_within r o.limits) w) (worker_in (run_state r o events) w).sent (worker_in (run_state r o events) w).counted cell
+    residue_read cell z is = seen_as (λ y s. z ≡ residue r (updates_by (terms_within r y.limits) w) (worker_in s w).sent (worker_in s w).counted cell)
+        (λ events h. is (terms_within r v.limits) w (worker_in (run_state r v events) w) refl (h.each w d at).keeps)
 
-    pub refused_read : (k : ℕ) (b : Bool) → b ≡ get_or d.refused k false → (events : List Event) → HasRun stands r o events → b ≡ is_refused k (worker_in (run_state r o events) w).refused
+    pub refused_read : (k : ℕ) (b : Bool) → b ≡ get_or d.refused k false → (events : List Event) → IsCoreAfter stands r o events → b ≡ is_refused k (worker_in (run_state r o events) w).refused
     refused_read k b is = seen_as (λ _ s. b ≡ is_refused k (worker_in s w).refused) (λ events h. is ∙ (h.each w d at).marks k)
 
 module _ {K H : Type 0} (stands : H → ℤ → ℤ → Type 0) (r : Rules) (v o : Core K H) (same : v ≡ o) (s : State) (h : IsCoreAt stands r v s) where
   -- the core is at the next state, and its caller sees the step
   moved : (new : Core K H) (e : Event) (reply : Reply) → Steps stands r v new e reply → ((z : State) × IsCoreAt stands r new z) × Steps stands r o new e reply
-  moved new e reply steps = (((lag_step (terms_of r v.limits) s e).0, (steps.step s h).0), subst (λ (z : Core K H). Steps stands r z new e reply) same steps)
+  moved new e reply steps = (((lag_step (terms_within r v.limits) s e).0, (steps.step s h).0), subst (λ (z : Core K H). Steps stands r z new e reply) same steps)
 
   pub there : (w : ℕ) → w < workers_of o → w < length v.workers
   there w below = (let own : w < workers_of v = subst (λ (z : Core K H). w < workers_of z) (sym same) below in omega (arith, own, h.fit.workers))
@@ -114,24 +114,24 @@ module _ {K H : Type 0} (stands : H → ℤ → ℤ → Type 0) (r : Rules) (v o
     pub lane_cleared : d.counter.taken ≡ 0
     lane_cleared = (h.each w d (worker_at w d below is)).ready.cleared
 
-    pub update_asks : (us : List Entry) → updates_by (terms_of r v.limits) w ≡ us → CanTakeUp r us d
+    pub update_asks : (us : List Entry) → updates_by (terms_within r v.limits) w ≡ us → CanTakeUp r us d
     update_asks us own = can_take_up stands r v s h w d inside (worker_at w d below is) us own
 
     module _ (e : LagWorker K H) (same_cells : length e.counter.sketch.held ≡ length d.counter.sketch.held) where
-      pub update_done : (us : List Entry) → updates_by (terms_of r v.limits) w ≡ us → (reply : Reply)
-          → ((l : Limits) (k : ℕ) (x : Worker) → updates_by (terms_of r l) k ≡ us → IsWorkerAt stands (terms_of r l) k d x
-          → IsWorkerAt stands (terms_of r l) k e (count_step (terms_of r l) k x).0 × (reply ≡ (count_step (terms_of r l) k x).1))
+      pub update_done : (us : List Entry) → updates_by (terms_within r v.limits) w ≡ us → (reply : Reply)
+          → ((l : Limits) (k : ℕ) (x : Worker) → updates_by (terms_within r l) k ≡ us → IsWorkerAt stands (terms_within r l) k d x
+          → IsWorkerAt stands (terms_within r l) k e (count_step (terms_within r l) k x).0 × (reply ≡ (count_step (terms_within r l) k x).1))
           → ((z : State) × IsCoreAt stands r (record v { workers = set v.workers w e }) z) × Steps stands r o (record v { workers = set v.workers w e }) (Update w) reply
       update_done us own reply works =
           moved (record v { workers = set v.workers w e }) (Update w) reply (update_steps stands r v w d e inside (worker_at w d below is) same_cells reply (λ x its. works v.limits w x own its))
 
-      pub none_done : ((l : Limits) (k : ℕ) (x : Worker) → IsWorkerAt stands (terms_of r l) k d x → (x.taken ≡ length x.sent) × IsWorkerAt stands (terms_of r l) k e x)
+      pub none_done : ((l : Limits) (k : ℕ) (x : Worker) → IsWorkerAt stands (terms_within r l) k d x → (x.taken ≡ length x.sent) × IsWorkerAt stands (terms_within r l) k e x)
           → ((z : State) × IsCoreAt stands r (record v { workers = set v.workers w e }) z) × Steps stands r o (record v { workers = set v.workers w e }) (Take w) Empty
       none_done works = moved (record v { workers = set v.workers w e }) (Take w) Empty (take_none stands r v w d e inside (worker_at w d below is) same_cells (λ x its. works v.limits w x its))
 
       pub one_done : v.shape ≡ shape_of v → AreLaws r → (m : Push) (z : ℤ) → z ≡ m.amount → (f : StateView) → f ≡ absorbed r v.fold m
-          → ((l : Limits) (k : ℕ) (x : Worker) → IsWorkerAt stands (terms_of r l) k d x
-          → (x.taken < length x.sent) × (message_at x.sent x.taken ≡ m) × IsWorkerAt stands (terms_of r l) k e (with_taken x 1))
+          → ((l : Limits) (k : ℕ) (x : Worker) → IsWorkerAt stands (terms_within r l) k d x
+          → (x.taken < length x.sent) × (message_at x.sent x.taken ≡ m) × IsWorkerAt stands (terms_within r l) k e (with_taken x 1))
           → ((z : State) × IsCoreAt stands r (record v { shape = f.table.shape; workers = set v.workers w e; fold = f }) z)
           × Steps stands r o (record v { shape = f.table.shape; workers = set v.workers w e; fold = f }) (Take w) (Took z)
       one_done own laws m z amount f fold works =
@@ -176,9 +176,9 @@ module _ {K H : Type 0} (stands : H → ℤ → ℤ → Type 0) (r : Rules) (v o
       let inside : cell < size_of v.shape = subst (λ (y : Core K H). cell < size_of y.shape) (sym same) below in
       omega (arith, inside, size)
 
-  pub mark_there : (w : ℕ) (d : LagWorker K H) → slice_get v.workers w ≡ Some d → (k : ℕ) → k < length (updates_by (terms_of r o.limits) w) → k < length d.refused
+  pub mark_there : (w : ℕ) (d : LagWorker K H) → slice_get v.workers w ≡ Some d → (k : ℕ) → k < length (updates_by (terms_within r o.limits) w) → k < length d.refused
   mark_there w d at k below =
-      let inside : k < length (updates_by (terms_of r v.limits) w) = subst (λ (y : Core K H). k < length (updates_by (terms_of r y.limits) w)) (sym same) below in
+      let inside : k < length (updates_by (terms_within r v.limits) w) = subst (λ (y : Core K H). k < length (updates_by (terms_within r y.limits) w)) (sym same) below in
       omega (arith, inside, (h.each w d at).ready.marks)
 
   pub live_there : (place : ℕ) → place < o.shown.live → place < length v.fold.heavy.keys

@@ -17,7 +17,7 @@ use Rattle.push_history.specs.Whole.{whole}
 use Rattle.push_history.proofs.Conserved.{conserved}
 use Rattle.push_history.proofs.MoreMessages.{front_at}
 use Rattle.lag_core.specs.declared.worker.LagWorker.{LagWorker}
-use Rattle.lag_core.specs.Workers.{IsWorkerAt, terms_of}
+use Rattle.lag_core.specs.Workers.{IsWorkerAt, terms_within}
 use Rattle.lag_core.specs.Lags.{Core, IsCoreAt, shown_messages, workers_of}
 use Rattle.lag_core.specs.Laws.{Conserves, IsLawfulAt, IsLawfulCore, folded_front, lane_of, shown_front, told_folded, told_shown}
 use Rattle.lag_core.proofs.CoreSteps.{state_shows}
@@ -25,7 +25,7 @@ use Rattle.lag_core.proofs.Counting.{counted_is}
 
 module _ {K H : Type 0} (stands : H → ℤ → ℤ → Type 0) (r : Rules) (v : Core K H) (s : State) (h : IsCoreAt stands r v s) where
   abbrev t : Terms
-  t = terms_of r v.limits
+  t = terms_within r v.limits
 
   -- the messages of a worker that are shown, and those that are folded and not shown
   abbrev first : ℕ → List Push

@@ -31,7 +31,7 @@ use Rattle.live_state.specs.Shows.{Shows}
 use Rattle.live_state.proofs.Layouts.{absorbed_layout}
 use Rattle.lag_core.specs.declared.shown.ShownState.{ShownState}
 use Rattle.lag_core.specs.declared.worker.LagWorker.{LagWorker}
-use Rattle.lag_core.specs.Workers.{CanTakeUp, IsReadyToCount, IsWorkerAt, terms_of}
+use Rattle.lag_core.specs.Workers.{CanTakeUp, IsReadyToCount, IsWorkerAt, terms_within}
 use Rattle.lag_core.specs.Lags.{Core, IsCoreAt, IsFitForRun, IsShownOf, Steps, shape_of, shown_messages, workers_of}
 use Rattle.lag_core.proofs.Counting.{queue_few, sent_counted}
 use Rattle.lag_core.proofs.Folding.{all_fit, folded_few, folded_on, shows}
@@ -53,14 +53,14 @@ took s w m some is =
 module _ {K H : Type 0} (stands : H → ℤ → ℤ → Type 0) (r : Rules) (v : Core K H) where
   -- what a state of the run says of its messages
   pub state_shows : (s : State) → IsCoreAt stands r v s → Shows r (layout_of v.fold) s.folded v.fold
-  state_shows s h = shows r v.fold s.folded h.fold (folded_few (terms_of r v.limits) s h.lawful h.fit.few h.fit.few_updates)
+  state_shows s h = shows r v.fold s.folded h.fold (folded_few (terms_within r v.limits) s h.lawful h.fit.few h.fit.few_updates)
 
   -- all that a run folds is for workers and cells that there are, and tells values
-  pub folded_parts : AreLaws r → IsFitForRun r v → (s : State) → IsLawfulState (terms_of r v.limits) s
+  pub folded_parts : AreLaws r → IsFitForRun r v → (s : State) → IsLawfulState (terms_within r v.limits) s
       → All (λ m. (m.worker < workers_of v) × (m.cell < size_of (shape_of v)) × (r.is_value m.amount ≡ true)) s.folded
-  folded_parts laws fit s lawful = folded_fit (terms_of r v.limits) laws (size_of (shape_of v)) fit.updates s lawful
+  folded_parts laws fit s lawful = folded_fit (terms_within r v.limits) laws (size_of (shape_of v)) fit.updates s lawful
 
-  fits_in : AreLaws r → IsFitForRun r v → (s : State) → IsLawfulState (terms_of r v.limits) s → Fit r (layout_of v.fold) s.folded
+  fits_in : AreLaws r → IsFitForRun r v → (s : State) → IsLawfulState (terms_within r v.limits) s → Fit r (layout_of v.fold) s.folded
   fits_in laws fit s lawful = all_fit r (layout_of v.fold) s.folded (λ k e lt. let m = folded_parts laws fit s lawful k e lt in (omega (arith, m.0, fit.fronts), m.1, m.2))
 
   -- how long the lists are that are shown
@@ -97,9 +97,9 @@ module _ {K H : Type 0} (stands : H → ℤ → ℤ → Type 0) (r : Rules) (v :
 
   -- a worker can take up its updates
   pub can_take_up : (s : State) → IsCoreAt stands r v s → (w : ℕ) (d : LagWorker K H) → w < workers_of v → slice_get v.workers w ≡ Some d
-      → (us : List Entry) → updates_by (terms_of r v.limits) w ≡ us → CanTakeUp r us d
+      → (us : List Entry) → updates_by (terms_within r v.limits) w ≡ us → CanTakeUp r us d
   can_take_up s h w d below at us is =
-      let t = terms_of r v.limits in
+      let t = terms_within r v.limits in
       let its = h.each w d at in
       let fit = subst (λ (l : List Entry). All (λ u. (u.cell < size_of (shape_of v)) × (r.is_value u.value ≡ true)) l) is (h.fit.updates w below) in
       record {
@@ -111,14 +111,14 @@ module _ {K H : Type 0} (stands : H → ℤ → ℤ → Type 0) (r : Rules) (v :
 
   module _ (w : ℕ) (d e : LagWorker K H) (below : w < workers_of v) (at : slice_get v.workers w ≡ Some d) (same_cells : length e.counter.sketch.held ≡ length d.counter.sketch.held) where
     -- the workers with one in place of another
-    each_after : (s : State) → IsCoreAt stands r v s → (y : Worker) → IsWorkerAt stands (terms_of r v.limits) w e y
-        → (k : ℕ) (a : LagWorker K H) → slice_get (set v.workers w e) k ≡ Some a → IsWorkerAt stands (terms_of r v.limits) k a (get_or (set s.workers w y) k fresh_worker)
+    each_after : (s : State) → IsCoreAt stands r v s → (y : Worker) → IsWorkerAt stands (terms_within r v.limits) w e y
+        → (k : ℕ) (a : LagWorker K H) → slice_get (set v.workers w e) k ≡ Some a → IsWorkerAt stands (terms_within r v.limits) k a (get_or (set s.workers w y) k fresh_worker)
     each_after s h y now k a at_a = elim (slot_set v.workers w k e a at_a) [
       | inl same ↦
           let itself : get_or (set s.workers w y) w fresh_worker ≡ y = get_or-set_same s.workers w y fresh_worker (omega (arith, below, h.lawful.workers)) in
-          subst (λ (j : ℕ). IsWorkerAt stands (terms_of r v.limits) j a (get_or (set s.workers w y) j fresh_worker)) same.0
-          (subst (λ (z : Worker). IsWorkerAt stands (terms_of r v.limits) w a z) (sym itself) (subst (λ (z : LagWorker K H). IsWorkerAt stands (terms_of r v.limits) w z y) same.1 now))
-      | inr other ↦ subst (λ (z : Worker). IsWorkerAt stands (terms_of r v.limits) k a z) (sym (get_or-set_other s.workers w k y fresh_worker (λ i. other.0 (sym i)))) (h.each k a other.1)
+          subst (λ (j : ℕ). IsWorkerAt stands (terms_within r v.limits) j a (get_or (set s.workers w y) j fresh_worker)) same.0
+          (subst (λ (z : Worker). IsWorkerAt stands (terms_within r v.limits) w a z) (sym itself) (subst (λ (z : LagWorker K H). IsWorkerAt stands (terms_within r v.limits) w z y) same.1 now))
+      | inr other ↦ subst (λ (z : Worker). IsWorkerAt stands (terms_within r v.limits) k a z) (sym (get_or-set_other s.workers w k y fresh_worker (λ i. other.0 (sym i)))) (h.each k a other.1)
     ]
 
     fit_after : IsFitForRun r v → (z : Shape) (f : StateView) → layout_of f ≡ layout_of v.fold → IsFitForRun r (record v { shape = z; workers = set v.workers w e; fold = f })
@@ -126,7 +126,7 @@ module _ {K H : Type 0} (stands : H → ℤ → ℤ → Type 0) (r : Rules) (v :
       workers = length-set v.workers w e ∙ fit.workers;
       few = fit.few;
       few_updates = fit.few_updates;
-      updates = subst (λ (l : Layout). (k : ℕ) → k < workers_of v → All (λ u. (u.cell < size_of l.shape) × (r.is_value u.value ≡ true)) (updates_by (terms_of r v.limits) k)) (sym same) fit.updates;
+      updates = subst (λ (l : Layout). (k : ℕ) → k < workers_of v → All (λ u. (u.cell < size_of l.shape) × (r.is_value u.value ≡ true)) (updates_by (terms_within r v.limits) k)) (sym same) fit.updates;
       cells = λ k a at_a. elim (slot_set v.workers w k e a at_a) [
         | inl here ↦ ap (λ (z : LagWorker K H). length z.counter.sketch.held) (sym here.1) ∙ same_cells ∙ fit.cells w d at ∙ ap (λ (l : Layout). size_of l.shape) (sym same)
         | inr there ↦ fit.cells k a there.1 ∙ ap (λ (l : Layout). size_of l.shape) (sym same)
@@ -134,8 +134,8 @@ module _ {K H : Type 0} (stands : H → ℤ → ℤ → Type 0) (r : Rules) (v :
       fronts = ap (λ (l : Layout). l.workers) same ∙ fit.fronts;
     }
 
-    pub update_steps : (reply : Reply) → ((x : Worker) → IsWorkerAt stands (terms_of r v.limits) w d x
-        → IsWorkerAt stands (terms_of r v.limits) w e (count_step (terms_of r v.limits) w x).0 × (reply ≡ (count_step (terms_of r v.limits) w x).1))
+    pub update_steps : (reply : Reply) → ((x : Worker) → IsWorkerAt stands (terms_within r v.limits) w d x
+        → IsWorkerAt stands (terms_within r v.limits) w e (count_step (terms_within r v.limits) w x).0 × (reply ≡ (count_step (terms_within r v.limits) w x).1))
         → Steps stands r v (record v { workers = set v.workers w e }) (Update w) reply
     unfolding lag_step
     update_steps reply works = record {
@@ -147,8 +147,8 @@ module _ {K H : Type 0} (stands : H → ℤ → ℤ → Type 0) (r : Rules) (v :
           let now = works (worker_in s w) (h.each w d at) in (
             record {
               fit = fit_after h.fit v.shape v.fold refl;
-              lawful = step_lawful (terms_of r v.limits) s (Update w) h.lawful;
-              each = each_after s h (count_step (terms_of r v.limits) w (worker_in s w)).0 now.0;
+              lawful = step_lawful (terms_within r v.limits) s (Update w) h.lawful;
+              each = each_after s h (count_step (terms_within r v.limits) w (worker_in s w)).0 now.0;
               fold = h.fold;
               shown = h.shown;
               readers = h.readers;
@@ -158,7 +158,7 @@ module _ {K H : Type 0} (stands : H → ℤ → ℤ → Type 0) (r : Rules) (v :
           );
     }
 
-    pub take_none : ((x : Worker) → IsWorkerAt stands (terms_of r v.limits) w d x → (x.taken ≡ length x.sent) × IsWorkerAt stands (terms_of r v.limits) w e x)
+    pub take_none : ((x : Worker) → IsWorkerAt stands (terms_within r v.limits) w d x → (x.taken ≡ length x.sent) × IsWorkerAt stands (terms_within r v.limits) w e x)
         → Steps stands r v (record v { workers = set v.workers w e }) (Take w) Empty
     unfolding lag_step take_step
     take_none works = record {
@@ -175,7 +175,7 @@ module _ {K H : Type 0} (stands : H → ℤ → ℤ → Type 0) (r : Rules) (v :
             record {
               fit = fit_after h.fit v.shape v.fold refl;
               lawful = h.lawful;
-              each = λ k a at_a. subst (λ (z : State). IsWorkerAt stands (terms_of r v.limits) k a (worker_in z k)) (same_worker s w) (each_after s h x now.1 k a at_a);
+              each = λ k a at_a. subst (λ (z : State). IsWorkerAt stands (terms_within r v.limits) k a (worker_in z k)) (same_worker s w) (each_after s h x now.1 k a at_a);
               fold = h.fold;
               shown = h.shown;
               readers = h.readers;
@@ -190,7 +190,7 @@ module _ {K H : Type 0} (stands : H → ℤ → ℤ → Type 0) (r : Rules) (v :
       abbrev with_folded : State → State
       with_folded s = record { workers = set s.workers w (with_taken (worker_in s w) 1); folded = s.folded ++ m ∷ []; shown = s.shown; seen = s.seen }
 
-      core_folded : AreLaws r → (s : State) → IsCoreAt stands r v s → IsLawfulState (terms_of r v.limits) (with_folded s) → IsWorkerAt stands (terms_of r v.limits) w e (with_taken (worker_in s w) 1)
+      core_folded : AreLaws r → (s : State) → IsCoreAt stands r v s → IsLawfulState (terms_within r v.limits) (with_folded s) → IsWorkerAt stands (terms_within r v.limits) w e (with_taken (worker_in s w) 1)
           → IsCoreAt stands r (record v { shape = (absorbed r v.fold m).table.shape; workers = set v.workers w e; fold = absorbed r v.fold m }) (with_folded s)
       core_folded laws s h lawful now =
           let same : layout_of (absorbed r v.fold m) ≡ layout_of v.fold = absorbed_layout r v.fold m in
@@ -208,8 +208,8 @@ module _ {K H : Type 0} (stands : H → ℤ → ℤ → Type 0) (r : Rules) (v :
                 h.seen q front at_q ∙ ap (front_of (workers_of v)) (sym (stays (get_or s.seen q 0) (omega (arith, few, h.lawful.shown))));
           }
 
-      pub take_one : v.shape ≡ shape_of v → AreLaws r → ((x : Worker) → IsWorkerAt stands (terms_of r v.limits) w d x
-          → (x.taken < length x.sent) × (message_at x.sent x.taken ≡ m) × IsWorkerAt stands (terms_of r v.limits) w e (with_taken x 1))
+      pub take_one : v.shape ≡ shape_of v → AreLaws r → ((x : Worker) → IsWorkerAt stands (terms_within r v.limits) w d x
+          → (x.taken < length x.sent) × (message_at x.sent x.taken ≡ m) × IsWorkerAt stands (terms_within r v.limits) w e (with_taken x 1))
           → Steps stands r v (record v { shape = (absorbed r v.fold m).table.shape; workers = set v.workers w e; fold = absorbed r v.fold m }) (Take w) (Took m.amount)
       unfolding lag_step
       take_one own laws works = record {
@@ -220,7 +220,7 @@ module _ {K H : Type 0} (stands : H → ℤ → ℤ → Type 0) (r : Rules) (v :
         step = λ s h.
             let now = works (worker_in s w) (h.each w d at) in
             let step = took s w m now.0 now.1 in
-            let lawful : IsLawfulState (terms_of r v.limits) (with_folded s) = subst (λ (z : State × Reply). IsLawfulState (terms_of r v.limits) z.0) step (step_lawful (terms_of r v.limits) s (Take w) h.lawful) in
+            let lawful : IsLawfulState (terms_within r v.limits) (with_folded s) = subst (λ (z : State × Reply). IsLawfulState (terms_within r v.limits) z.0) step (step_lawful (terms_within r v.limits) s (Take w) h.lawful) in
             subst (λ (z : State × Reply). IsCoreAt stands r (record v { shape = (absorbed r v.fold m).table.shape; workers = set v.workers w e; fold = absorbed r v.fold m }) z.0 × (Took m.amount ≡ z.1)) (sym step)
             (core_folded laws s h lawful now.2, refl);
       }
@@ -249,7 +249,7 @@ module _ {K H : Type 0} (stands : H → ℤ → ℤ → Type 0) (r : Rules) (v :
       step = λ s h. (
         record {
           fit = record { workers = h.fit.workers; few = h.fit.few; few_updates = h.fit.few_updates; updates = h.fit.updates; cells = h.fit.cells; fronts = h.fit.fronts };
-          lawful = step_lawful (terms_of r v.limits) s Publish h.lawful;
+          lawful = step_lawful (terms_within r v.limits) s Publish h.lawful;
           each = h.each;
           fold = h.fold;
           shown = all_shown s h;
@@ -271,7 +271,7 @@ module _ {K H : Type 0} (stands : H → ℤ → ℤ → Type 0) (r : Rules) (v :
     step = λ s h. (
       record {
         fit = record { workers = h.fit.workers; few = h.fit.few; few_updates = h.fit.few_updates; updates = h.fit.updates; cells = h.fit.cells; fronts = h.fit.fronts };
-        lawful = step_lawful (terms_of r v.limits) s (Ask q) h.lawful;
+        lawful = step_lawful (terms_within r v.limits) s (Ask q) h.lawful;
         each = h.each;
         fold = h.fold;
         shown = h.shown;

@@ -20,7 +20,7 @@ use Rattle.live_state.proofs.Layouts.{fresh_layout}
 use Rattle.live_state.proofs.Live.{shows_all}
 use Rattle.lag_core.specs.declared.shown.ShownState.{ShownState}
 use Rattle.lag_core.specs.declared.worker.LagWorker.{LagWorker}
-use Rattle.lag_core.specs.Workers.{IsFreshWorker, IsWorkerAt, terms_of}
+use Rattle.lag_core.specs.Workers.{IsFreshWorker, IsWorkerAt, terms_within}
 use Rattle.lag_core.specs.Lags.{Core, IsCoreAt, IsShownOf, shape_of, workers_of}
 
 -- nothing is shown before a message is folded
@@ -49,10 +49,10 @@ rows_fit r size rows few cells values w below =
 
 module _ {K H : Type 0} (stands : H → ℤ → ℤ → Type 0) (r : Rules) (v : Core K H) (l : Layout) where
   pub core_fresh : v.fold ≡ fresh_state l → l.workers ≡ workers_of v → length v.workers ≡ workers_of v → workers_of v < 2 ^ 32
-      → ((w : ℕ) (d : LagWorker K H) → slice_get v.workers w ≡ Some d → IsFreshWorker stands (terms_of r v.limits) (size_of l.shape) w d)
+      → ((w : ℕ) (d : LagWorker K H) → slice_get v.workers w ≡ Some d → IsFreshWorker stands (terms_within r v.limits) (size_of l.shape) w d)
       → ((w : ℕ) → w < workers_of v → (length (get_or v.limits.updates w []) < 2 ^ 32) × All (λ u. u.cell < size_of l.shape) (get_or v.limits.updates w []) × HoldValues r (get_or v.limits.updates w []))
       → IsShownOf r l [] v.shown → All (λ front. front.items ≡ replicate (workers_of v) 0) v.seen
-      → IsCoreAt stands r v (lag_run (terms_of r v.limits) (length v.seen) [])
+      → IsCoreAt stands r v (lag_run (terms_within r v.limits) (length v.seen) [])
   unfolding lag_run start
   core_fresh fold same count few fresh updates shown fronts =
       let layout : layout_of v.fold ≡ l = ap layout_of fold ∙ fresh_layout l in
@@ -66,11 +66,11 @@ module _ {K H : Type 0} (stands : H → ℤ → ℤ → Type 0) (r : Rules) (v :
           cells = λ w d at. (fresh w d at).its_cells ∙ sym size;
           fronts = ap (λ (z : Layout). z.workers) layout ∙ same;
         };
-        lawful = run_lawful (terms_of r v.limits) (length v.seen) [];
+        lawful = run_lawful (terms_within r v.limits) (length v.seen) [];
         each = λ w d at.
             let there : get_or (replicate (workers_of v) fresh_worker) w fresh_worker ≡ fresh_worker =
             get_or-replicate (workers_of v) w fresh_worker fresh_worker (omega (arith, slice_get_within v.workers w d at, count)) in
-            subst (λ (x : Worker). IsWorkerAt stands (terms_of r v.limits) w d x) (sym there) (fresh w d at).fresh;
+            subst (λ (x : Worker). IsWorkerAt stands (terms_within r v.limits) w d x) (sym there) (fresh w d at).fresh;
         fold = record {
           fit = All-nil (λ (m : Push). fits r (layout_of v.fold) m ≡ true);
           sums = fold ∙ ap fresh_state (sym layout);

@@ -19,7 +19,7 @@ use Rattle.push_history.proofs.Folded.{fold_shown}
 use Rattle.push_history.proofs.Notes.{map_range_same}
 use Rattle.fold_law.proofs.Fronts.{begins_all}
 use Rattle.live_state.specs.Fold.{Fit, layout_of, most}
-use Rattle.lag_core.specs.Workers.{terms_of}
+use Rattle.lag_core.specs.Workers.{terms_within}
 use Rattle.lag_core.specs.Lags.{Core, IsCoreAt, sent_by_each, shape_of, shown_messages, workers_of}
 use Rattle.lag_core.proofs.CoreSteps.{folded_parts, state_shows}
 use Rattle.lag_core.proofs.Folding.{folded_few, live_first}
@@ -61,7 +61,7 @@ module _ {K H : Type 0} (stands : H → ℤ → ℤ → Type 0) (r : Rules) (v :
   live_parts : (more : List FlowKey) × (v.fold.heavy.keys ≡ live_keys r (shape_of v) v.fold.heavy.limit v.fold.heavy.least (shown_messages s) ++ more)
   live_parts =
       let parts = take-append-drop s.shown s.folded in
-      let few : length (shown_messages s ++ drop s.shown s.folded) ≤ most = omega (arith, ap length parts, folded_few (terms_of r v.limits) s h.lawful h.fit.few h.fit.few_updates) in
+      let few : length (shown_messages s ++ drop s.shown s.folded) ≤ most = omega (arith, ap length parts, folded_few (terms_within r v.limits) s h.lawful h.fit.few h.fit.few_updates) in
       let fit : Fit r (layout_of v.fold) (shown_messages s ++ drop s.shown s.folded) = subst (λ (ms : List Push). Fit r (layout_of v.fold) ms) (sym parts) h.fold.fit in
       let first = live_first r (layout_of v.fold) (shown_messages s) (drop s.shown s.folded) fit few in
       (first.0, (state_shows stands r v s h).keys ∙ ap (live_keys r (shape_of v) v.fold.heavy.limit v.fold.heavy.least) (sym parts) ∙ first.1)

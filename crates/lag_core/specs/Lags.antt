@@ -17,7 +17,7 @@ use Rattle.live_state.specs.declared.layout.Layout.{Layout}
 use Rattle.live_state.specs.Fold.{StateView, IsStateAfter, layout_of}
 use Rattle.lag_core.specs.declared.shown.ShownState.{ShownState}
 use Rattle.lag_core.specs.declared.worker.LagWorker.{LagWorker}
-use Rattle.lag_core.specs.Workers.{IsWorkerAt, Limits, terms_of}
+use Rattle.lag_core.specs.Workers.{IsWorkerAt, Limits, terms_within}
 
 -- the shape of its tables, and what the run is of besides; its workers; the state that messages are folded into; what of
 -- it is shown; of each reader the front that it has seen
@@ -50,11 +50,11 @@ abbrev pub refused_by_each : State → List (List ℕ)
 refused_by_each s = map (λ x. x.refused) s.workers
 
 -- the event names a worker or a reader that there is
-abbrev pub IsWithin : ℕ → ℕ → Event → Type 0
-IsWithin workers readers (Update w) = w < workers
-IsWithin workers readers (Take w) = w < workers
-IsWithin workers readers Publish = Unit {0}
-IsWithin workers readers (Ask q) = q < readers
+abbrev pub NamesOneThere : ℕ → ℕ → Event → Type 0
+NamesOneThere workers readers (Update w) = w < workers
+NamesOneThere workers readers (Take w) = w < workers
+NamesOneThere workers readers Publish = Unit {0}
+NamesOneThere workers readers (Ask q) = q < readers
 
 module _ {K Held : Type 0} where
   -- how many workers there are
@@ -70,17 +70,17 @@ module _ {K Held : Type 0} where
   pub record IsFitForRun (r : Rules) (v : Core K Held) : Type 0 where
     pub workers : length v.workers ≡ workers_of v
     pub few : workers_of v < 2 ^ 32
-    pub few_updates : (w : ℕ) → w < workers_of v → length (updates_by (terms_of r v.limits) w) < 2 ^ 32
+    pub few_updates : (w : ℕ) → w < workers_of v → length (updates_by (terms_within r v.limits) w) < 2 ^ 32
     pub updates : (w : ℕ) → w < workers_of v
-        → All (λ u. (u.cell < size_of (shape_of v)) × (r.is_value u.value ≡ true)) (updates_by (terms_of r v.limits) w)
+        → All (λ u. (u.cell < size_of (shape_of v)) × (r.is_value u.value ≡ true)) (updates_by (terms_within r v.limits) w)
     pub cells : (w : ℕ) (d : LagWorker K Held) → slice_get v.workers w ≡ Some d → length d.counter.sketch.held ≡ size_of (shape_of v)
     pub fronts : length v.fold.front ≡ workers_of v
 
   -- the core is that of this state of a run
   pub record IsCoreAt (stands : Held → ℤ → ℤ → Type 0) (r : Rules) (v : Core K Held) (s : State) : Type 0 where
     pub fit : IsFitForRun r v
-    pub lawful : IsLawfulState (terms_of r v.limits) s
-    pub each : (w : ℕ) (d : LagWorker K Held) → slice_get v.workers w ≡ Some d → IsWorkerAt stands (terms_of r v.limits) w d (worker_in s w)
+    pub lawful : IsLawfulState (terms_within r v.limits) s
+    pub each : (w : ℕ) (d : LagWorker K Held) → slice_get v.workers w ≡ Some d → IsWorkerAt stands (terms_within r v.limits) w d (worker_in s w)
     pub fold : IsStateAfter r v.fold s.folded
     pub shown : IsShownOf r (layout_of v.fold) (shown_messages s) v.shown
     pub readers : length s.seen ≡ length v.seen
@@ -89,11 +89,11 @@ module _ {K Held : Type 0} where
 
   -- the state after these events
   abbrev pub run_state : Rules → Core K Held → List Event → State
-  run_state r v events = lag_run (terms_of r v.limits) (length v.seen) events
+  run_state r v events = lag_run (terms_within r v.limits) (length v.seen) events
 
   -- the core has run these events
-  abbrev pub HasRun : (Held → ℤ → ℤ → Type 0) → Rules → Core K Held → List Event → Type 0
-  HasRun stands r v events = IsCoreAt stands r v (run_state r v events)
+  abbrev pub IsCoreAfter : (Held → ℤ → ℤ → Type 0) → Rules → Core K Held → List Event → Type 0
+  IsCoreAfter stands r v events = IsCoreAt stands r v (run_state r v events)
 
   -- wherever the old core is at a state, the new one is at the state that the event makes of it, with its reply
   pub record Steps (stands : Held → ℤ → ℤ → Type 0) (r : Rules) (old new : Core K Held) (e : Event) (reply : Reply) : Type 0 where
@@ -102,4 +102,4 @@ module _ {K Held : Type 0} where
     pub same_shape : new.shape ≡ old.shape
     pub layout : layout_of new.fold ≡ layout_of old.fold
     pub step : (s : State) → IsCoreAt stands r old s
-        → IsCoreAt stands r new (lag_step (terms_of r old.limits) s e).0 × (reply ≡ (lag_step (terms_of r old.limits) s e).1)
+        → IsCoreAt stands r new (lag_step (terms_within r old.limits) s e).0 × (reply ≡ (lag_step (terms_within r old.limits) s e).1)

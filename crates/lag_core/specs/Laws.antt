@@ -9,7 +9,7 @@ use Rattle.push_history.specs.Residue.{residue}
 use Rattle.push_history.specs.Told.{told_of}
 use Rattle.push_history.specs.Whole.{whole}
 use Rattle.lag_core.specs.declared.worker.LagWorker.{LagWorker}
-use Rattle.lag_core.specs.Workers.{terms_of}
+use Rattle.lag_core.specs.Workers.{terms_within}
 use Rattle.lag_core.specs.Lags.{Core, workers_of}
 
 module _ {K Held : Type 0} where
@@ -29,7 +29,7 @@ module _ {K Held : Type 0} where
   -- as many as the core's front says, and the others wait in its lane
   pub record IsLawfulAt (r : Rules) (v : Core K Held) (s : State) (w : ℕ) (d : LagWorker K Held) : Type 0 where
     pub pushes : LawfulPushes r w v.limits.threshold v.limits.capacity v.limits.full
-        (take d.counter.sketch.counted (updates_by (terms_of r v.limits) w)) (worker_in s w).sent (worker_in s w).refused
+        (take d.counter.sketch.counted (updates_by (terms_within r v.limits) w)) (worker_in s w).sent (worker_in s w).refused
     pub folded : messages_of w s.folded ≡ take (folded_front v w) (worker_in s w).sent
     pub queued : lane_of d ≡ drop (folded_front v w) (worker_in s w).sent
 
@@ -49,7 +49,7 @@ module _ {K Held : Type 0} where
   -- what the sketch of a worker counted of a cell is the join of what is shown of it, folded and not shown, queued, and not told
   pub record Conserves (r : Rules) (v : Core K Held) (s : State) : Type 0 where
     pub whole_is : (w cell : ℕ) (d : LagWorker K Held) → slice_get v.workers w ≡ Some d →
-        let updates = updates_by (terms_of r v.limits) w in
+        let updates = updates_by (terms_within r v.limits) w in
         let sent = (worker_in s w).sent in
         whole r updates d.counter.sketch.counted cell
         ≡ r.join (r.join (r.join (told_shown r v sent w cell) (told_folded r v sent w cell)) (told_of r cell (lane_of d)))

@@ -19,8 +19,8 @@ pub record Limits : Type 0 where
   pub updates : List (List Update)
 
 -- with it
-abbrev pub terms_of : Rules → Limits → Terms
-terms_of r l = record { rules = r; threshold = l.threshold; capacity = l.capacity; full = l.full; updates = l.updates }
+abbrev pub terms_within : Rules → Limits → Terms
+terms_within r l = record { rules = r; threshold = l.threshold; capacity = l.capacity; full = l.full; updates = l.updates }
 
 -- for how many messages the queue has room: one more than a full lane holds, or as many as there are updates
 abbrev pub queue_room : ℕ → ℕ → ℕ

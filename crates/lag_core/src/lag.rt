@@ -2,7 +2,7 @@ ghost use Rattle.std.specs.Prelude.{◌≡◌, ◌<◌, ◌≤◌, ◌^◌, ◌+
 ghost use Rattle.hash_rows.specs.Shapes.{IsShape, size_of};
 ghost use Rattle.push_history.specs.Updates.{HoldValues};
 ghost use Rattle.push_history.specs.declared.event.Event.{Event};
-ghost use Rattle.lag_core.specs.Workers.{IsFreshWorker, terms_of};
+ghost use Rattle.lag_core.specs.Workers.{IsFreshWorker, terms_within};
 
 use crate::shown::{ShownState, nothing_shown, show};
 use crate::worker::{LagWorker, UpdateRows, new_worker, take_oldest, take_up};
@@ -50,7 +50,7 @@ impl<K: Kind> Model for Lag<K> {
 impl<K: Kind> Lag<K> {
     ghost use Rattle.push_history.specs.declared.event.Event.TheVariants.{Update, Take, Publish, Ask};
     ghost use Rattle.push_history.specs.LagRun.{reply_to};
-    ghost use Rattle.lag_core.specs.Lags.{HasRun, IsWithin, Steps, run_state, workers_of};
+    ghost use Rattle.lag_core.specs.Lags.{IsCoreAfter, NamesOneThere, Steps, run_state, workers_of};
     ghost use Rattle.lag_core.specs.Laws.{Conserves, IsLawfulCore};
 
     /// A run in which nothing has happened: a worker for each list of updates, lanes of so many
@@ -71,7 +71,7 @@ impl<K: Kind> Lag<K> {
         requires heavy { (1 ≤ heavy) × (heavy ≤ 1024) }
         requires cells { All (λ row. All (λ u. u.cell < size_of shape) row.items) updates.items }
         requires values { All (λ row. HoldValues K.rules row.items) updates.items }
-        ensures fresh { IfOk result (λ lag. HasRun K.stands K.rules lag []) }
+        ensures fresh { IfOk result (λ lag. IsCoreAfter K.stands K.rules lag []) }
         ensures shape { IfOk result (λ lag. lag.shape ≡ shape) }
         ensures limits { IfOk result (λ lag. lag.limits ≡ record {
           threshold = threshold;
@@ -81,9 +81,9 @@ impl<K: Kind> Lag<K> {
         }) }
         ensures readers { IfOk result (λ lag. length lag.seen ≡ readers) }
         ensures heavy { IfOk result (λ lag. (lag.fold.heavy.limit ≡ heavy) × (lag.fold.heavy.least ≡ least)) }
-        ensures lawful { IfOk result (λ lag. (events : List Event) → HasRun K.stands K.rules lag events →
+        ensures lawful { IfOk result (λ lag. (events : List Event) → IsCoreAfter K.stands K.rules lag events →
             IsLawfulCore K.rules lag (run_state K.rules lag events)) }
-        ensures conserves { IfOk result (λ lag. (events : List Event) → HasRun K.stands K.rules lag events →
+        ensures conserves { IfOk result (λ lag. (events : List Event) → IsCoreAfter K.stands K.rules lag events →
             Conserves K.rules lag (run_state K.rules lag events)) }
     {
         let count = updates.len();
@@ -105,24 +105,24 @@ impl<K: Kind> Lag<K> {
 
     /// Runs an event.
     pub fn step(&mut self, event: Event) -> Reply
-        requires { IsWithin (workers_of self.old) (length self.old.seen) event }
+        requires { NamesOneThere (workers_of self.old) (length self.old.seen) event }
         ensures limits { self.new.limits ≡ self.old.limits }
         ensures readers { length self.new.seen ≡ length self.old.seen }
         ensures shape { self.new.shape ≡ self.old.shape }
         ensures heavy { (self.new.fold.heavy.limit ≡ self.old.fold.heavy.limit) × (self.new.fold.heavy.least ≡ self.old.fold.heavy.least) }
-        ensures stands { (events : List Event) → HasRun K.stands K.rules self.old events →
-            HasRun K.stands K.rules self.new (events ++ event ∷ []) ×
-            (result ≡ reply_to (terms_of K.rules self.old.limits) (length self.old.seen) events event) }
-        ensures lawful { (events : List Event) → HasRun K.stands K.rules self.new events →
+        ensures stands { (events : List Event) → IsCoreAfter K.stands K.rules self.old events →
+            IsCoreAfter K.stands K.rules self.new (events ++ event ∷ []) ×
+            (result ≡ reply_to (terms_within K.rules self.old.limits) (length self.old.seen) events event) }
+        ensures lawful { (events : List Event) → IsCoreAfter K.stands K.rules self.new events →
             IsLawfulCore K.rules self.new (run_state K.rules self.new events) }
-        ensures conserves { (events : List Event) → HasRun K.stands K.rules self.new events →
+        ensures conserves { (events : List Event) → IsCoreAfter K.stands K.rules self.new events →
             Conserves K.rules self.new (run_state K.rules self.new events) }
     {
         self.run(event)
     }
 
     fn run(&mut self, event: Event) -> Reply
-        requires { IsWithin (workers_of self.old) (length self.old.seen) event }
+        requires { NamesOneThere (workers_of self.old) (length self.old.seen) event }
         ensures { Steps K.stands K.rules self.old self.new event result }
     {
         match event {
@@ -189,7 +189,7 @@ fn new_workers<K: Kind>(
     requires threshold { 0 < threshold }
     ensures count { IfOk result (λ workers. length workers.items ≡ length updates.now.items) }
     ensures fresh { IfOk result (λ workers. (w : ℕ) (d : _) → slice_get workers.items w ≡ Some d → IsFreshWorker K.stands
-        (terms_of K.rules (record {
+        (terms_within K.rules (record {
           threshold = threshold;
           capacity = capacity;
           full = full;

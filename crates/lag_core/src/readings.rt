@@ -9,8 +9,8 @@ ghost use Rattle.push_history.specs.LiveHeavy.{live_keys, missed_keys};
 ghost use Rattle.push_history.specs.Pushes.{is_refused};
 ghost use Rattle.push_history.specs.Residue.{residue};
 ghost use Rattle.push_history.specs.Shown.{shown_of, shown_cells};
-ghost use Rattle.lag_core.specs.Workers.{terms_of};
-ghost use Rattle.lag_core.specs.Lags.{HasRun, refused_by_each, sent_by_each, shown_messages, run_state, workers_of};
+ghost use Rattle.lag_core.specs.Workers.{terms_within};
+ghost use Rattle.lag_core.specs.Lags.{IsCoreAfter, refused_by_each, sent_by_each, shown_messages, run_state, workers_of};
 
 use crate::lag::Lag;
 use hash_rows::Kind;
@@ -20,7 +20,7 @@ impl<K: Kind> Lag<K> {
     /// The shown value of a cell.
     pub fn shown(&self, cell: u32) -> i64
         requires { cell < size_of self.now.shape }
-        ensures { (events : List Event) → HasRun K.stands K.rules self.now events → let s = run_state K.rules self.now events in
+        ensures { (events : List Event) → IsCoreAfter K.stands K.rules self.now events → let s = run_state K.rules self.now events in
             result ≡ shown_of K.rules (sent_by_each s) (front_of (workers_of self.now) (shown_messages s)) cell }
     {
         self.shown.table.cell(cell)
@@ -29,10 +29,10 @@ impl<K: Kind> Lag<K> {
     /// What is shown of a key. For Count-Min it is near what would be, had all matching updates been told.
     pub fn estimate(&self, key: &FlowKey) -> i64
         ensures near { K.sketch ≡ CountMin → AreAmounts self.now.limits.updates →
-            (events : List Event) → HasRun K.stands K.rules self.now events → let s = run_state K.rules self.now events in
+            (events : List Event) → IsCoreAfter K.stands K.rules self.now events → let s = run_state K.rules self.now events in
             IsNear self.now.limits.threshold self.now.limits.updates (sent_by_each s) (refused_by_each s)
             (front_of (workers_of self.now) (shown_messages s)) self.now.shape key.now result }
-        ensures shown { (events : List Event) → HasRun K.stands K.rules self.now events → let s = run_state K.rules self.now events in
+        ensures shown { (events : List Event) → IsCoreAfter K.stands K.rules self.now events → let s = run_state K.rules self.now events in
             result ≡ K.rules.estimate self.now.shape
             (shown_cells K.rules self.now.shape (sent_by_each s) (front_of (workers_of self.now) (shown_messages s))) key.now }
     {
@@ -42,7 +42,7 @@ impl<K: Kind> Lag<K> {
     /// How many messages of the worker are shown.
     pub fn front(&self, worker: u32) -> u64
         requires { worker < workers_of self.now }
-        ensures { (events : List Event) → HasRun K.stands K.rules self.now events → let s = run_state K.rules self.now events in
+        ensures { (events : List Event) → IsCoreAfter K.stands K.rules self.now events → let s = run_state K.rules self.now events in
             result ≡ slice_index_or (front_of (workers_of self.now) (shown_messages s)) worker 0 }
     {
         *self.shown.front.get(worker)
@@ -51,7 +51,7 @@ impl<K: Kind> Lag<K> {
     /// One more than the last shown update of the worker, 0 where there is none.
     pub fn upto(&self, worker: u32) -> u64
         requires { worker < workers_of self.now }
-        ensures { (events : List Event) → HasRun K.stands K.rules self.now events → let s = run_state K.rules self.now events in
+        ensures { (events : List Event) → IsCoreAfter K.stands K.rules self.now events → let s = run_state K.rules self.now events in
             result ≡ slice_index_or (uptos_of (workers_of self.now) (shown_messages s)) worker 0 }
     {
         *self.shown.upto.get(worker)
@@ -61,9 +61,9 @@ impl<K: Kind> Lag<K> {
     pub fn seen(&self, reader: u32, worker: u32) -> u64
         requires reader { reader < length self.now.seen }
         requires worker { worker < workers_of self.now }
-        ensures front { (events : List Event) → HasRun K.stands K.rules self.now events → let s = run_state K.rules self.now events in
+        ensures front { (events : List Event) → IsCoreAfter K.stands K.rules self.now events → let s = run_state K.rules self.now events in
             result ≡ slice_index_or (front_of (workers_of self.now) (take (slice_index_or s.seen reader 0) s.folded)) worker 0 }
-        ensures shown { (events : List Event) → HasRun K.stands K.rules self.now events → let s = run_state K.rules self.now events in
+        ensures shown { (events : List Event) → IsCoreAfter K.stands K.rules self.now events → let s = run_state K.rules self.now events in
             slice_index_or s.seen reader 0 ≤ s.shown }
     {
         *self.seen[reader as usize].get(worker)
@@ -72,7 +72,7 @@ impl<K: Kind> Lag<K> {
     /// How many messages the worker's lane holds.
     pub fn queued(&self, worker: u32) -> u32
         requires { worker < workers_of self.now }
-        ensures { (events : List Event) → HasRun K.stands K.rules self.now events
+        ensures { (events : List Event) → IsCoreAfter K.stands K.rules self.now events
             → let x = worker_in (run_state K.rules self.now events) worker in
             result ≡ length x.sent - x.taken }
     {
@@ -83,9 +83,9 @@ impl<K: Kind> Lag<K> {
     pub fn residue(&self, worker: u32, cell: u32) -> i64
         requires worker { worker < workers_of self.now }
         requires cell { cell < size_of self.now.shape }
-        ensures { (events : List Event) → HasRun K.stands K.rules self.now events
+        ensures { (events : List Event) → IsCoreAfter K.stands K.rules self.now events
             → let x = worker_in (run_state K.rules self.now events) worker in
-            result ≡ residue K.rules (updates_by (terms_of K.rules self.now.limits) worker) x.sent x.counted cell }
+            result ≡ residue K.rules (updates_by (terms_within K.rules self.now.limits) worker) x.sent x.counted cell }
     {
         self.workers[worker as usize].counter.residue(cell)
     }
@@ -93,8 +93,8 @@ impl<K: Kind> Lag<K> {
     /// Whether the push of this update of the worker met a full lane and was left.
     pub fn refused_at(&self, worker: u32, update: u32) -> bool
         requires worker { worker < workers_of self.now }
-        requires update { update < length (updates_by (terms_of K.rules self.now.limits) worker) }
-        ensures { (events : List Event) → HasRun K.stands K.rules self.now events
+        requires update { update < length (updates_by (terms_within K.rules self.now.limits) worker) }
+        ensures { (events : List Event) → IsCoreAfter K.stands K.rules self.now events
             → let x = worker_in (run_state K.rules self.now events) worker in
             result ≡ is_refused update x.refused }
     {
@@ -104,7 +104,7 @@ impl<K: Kind> Lag<K> {
     /// How many heavy keys are shown.
     pub fn live_len(&self) -> u32
         ensures len { result ≡ self.now.shown.live }
-        ensures stands { (events : List Event) → HasRun K.stands K.rules self.now events → let s = run_state K.rules self.now events in
+        ensures stands { (events : List Event) → IsCoreAfter K.stands K.rules self.now events → let s = run_state K.rules self.now events in
             result ≡ length (live_keys K.rules self.now.shape self.now.fold.heavy.limit self.now.fold.heavy.least (shown_messages s)) }
     {
         self.shown.live
@@ -113,7 +113,7 @@ impl<K: Kind> Lag<K> {
     /// A shown heavy key.
     pub fn live(&self, place: u32) -> FlowKey
         requires { place < self.now.shown.live }
-        ensures { (events : List Event) → HasRun K.stands K.rules self.now events → let s = run_state K.rules self.now events in
+        ensures { (events : List Event) → IsCoreAfter K.stands K.rules self.now events → let s = run_state K.rules self.now events in
             slice_get (live_keys K.rules self.now.shape self.now.fold.heavy.limit self.now.fold.heavy.least
             (shown_messages s)) place ≡ Some result }
     {
@@ -122,7 +122,7 @@ impl<K: Kind> Lag<K> {
 
     /// How many shown messages had a heavy key that found no room.
     pub fn missed(&self) -> u64
-        ensures { (events : List Event) → HasRun K.stands K.rules self.now events → let s = run_state K.rules self.now events in
+        ensures { (events : List Event) → IsCoreAfter K.stands K.rules self.now events → let s = run_state K.rules self.now events in
             result ≡ min (missed_keys K.rules self.now.shape self.now.fold.heavy.limit self.now.fold.heavy.least
             (shown_messages s)) 18446744073709551615 }
     {

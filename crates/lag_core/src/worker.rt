@@ -3,7 +3,7 @@ ghost use Rattle.push_history.specs.Front.{message_at};
 ghost use Rattle.push_history.specs.LagRun.{Worker, count_step, fresh_worker, updates_by};
 ghost use Rattle.push_history.specs.OwnSteps.{with_taken};
 ghost use Rattle.push_history.specs.Updates.{update_at};
-ghost use Rattle.lag_core.specs.Workers.{CanTakeUp, IsWorkerAt, Limits, is_refusal, terms_of};
+ghost use Rattle.lag_core.specs.Workers.{CanTakeUp, IsWorkerAt, Limits, is_refusal, terms_within};
 
 use flow_base::NoMemory;
 use hash_rows::{Bits, Full, Kind, Push, Update};
@@ -39,8 +39,8 @@ pub fn new_worker<K: Kind>(
     requires { 0 < threshold }
     ensures cells { IfOk result (λ worker. length worker.counter.sketch.held ≡ cells) }
     ensures fresh { IfOk result (λ worker. (l : Limits) → l.threshold ≡ threshold → l.capacity ≡ lane → l.full ≡ full
-        → length (updates_by (terms_of K.rules l) number) ≡ updates
-        → IsWorkerAt K.stands (terms_of K.rules l) number worker fresh_worker) }
+        → length (updates_by (terms_within K.rules l) number) ≡ updates
+        → IsWorkerAt K.stands (terms_within K.rules l) number worker fresh_worker) }
 {
     let sketch = Private::new(alloc, cells, threshold, updates)?;
     let room = lane.saturating_add(1).min(updates);
@@ -53,7 +53,7 @@ pub fn new_worker<K: Kind>(
 pub fn take_up<K: Kind>(worker: &mut LagWorker<K>, updates: &UpdateList) -> Reply
     requires { CanTakeUp K.rules updates.now.items worker.old }
     ensures cells { length worker.new.counter.sketch.held ≡ length worker.old.counter.sketch.held }
-    ensures stands { (l : Limits) (w : ℕ) (x : Worker) → let t = terms_of K.rules l in updates_by t w ≡ updates.now.items
+    ensures stands { (l : Limits) (w : ℕ) (x : Worker) → let t = terms_within K.rules l in updates_by t w ≡ updates.now.items
         → IsWorkerAt K.stands t w worker.old x
         → IsWorkerAt K.stands t w worker.new (count_step t w x).0 × (result ≡ (count_step t w x).1) }
 {
@@ -74,7 +74,7 @@ fn count<K: Kind>(worker: &mut LagWorker<K>, next: u32, update: &Update) -> Repl
     requires cell { update.now.cell < length worker.old.counter.sketch.held }
     requires value { K.rules.is_value update.now.value ≡ true }
     ensures cells { length worker.new.counter.sketch.held ≡ length worker.old.counter.sketch.held }
-    ensures stands { (l : Limits) (w : ℕ) (x : Worker) → let t = terms_of K.rules l in
+    ensures stands { (l : Limits) (w : ℕ) (x : Worker) → let t = terms_within K.rules l in
         x.counted < length (updates_by t w) → update_at (updates_by t w) x.counted ≡ update.now
         → IsWorkerAt K.stands t w worker.old x
         → IsWorkerAt K.stands t w worker.new (count_step t w x).0 × (result ≡ (count_step t w x).1) }
@@ -101,7 +101,7 @@ fn is_refusal(reply: Reply) -> bool
 pub fn take_oldest<K: Kind>(worker: &mut LagWorker<K>) -> Option<Push>
     requires { worker.old.counter.taken ≡ 0 }
     ensures cells { length worker.new.counter.sketch.held ≡ length worker.old.counter.sketch.held }
-    ensures stands { (l : Limits) (w : ℕ) (x : Worker) → let t = terms_of K.rules l in IsWorkerAt K.stands t w worker.old x
+    ensures stands { (l : Limits) (w : ℕ) (x : Worker) → let t = terms_within K.rules l in IsWorkerAt K.stands t w worker.old x
         → MatchOption result ((x.taken ≡ length x.sent) × IsWorkerAt K.stands t w worker.new x)
         (λ message. (x.taken < length x.sent) × (message_at x.sent x.taken ≡ message)
         × IsWorkerAt K.stands t w worker.new (with_taken x 1)) }

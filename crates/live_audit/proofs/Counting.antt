@@ -16,7 +16,7 @@ use Rattle.push_history.specs.LiveHeavy.{is_among, with_key, distinct_keys}
 use Rattle.push_history.proofs.Lists.{filter_same}
 use Rattle.push_history.proofs.LiveLists.{with_key_cases}
 use Rattle.told_table.specs.Tables.{all_messages, lists_of}
-use Rattle.told_table.specs.Tables.{AreSent, FitsIn, IsFor}
+use Rattle.told_table.specs.Tables.{AreSent, FitsIn, IsMessageFor}
 use Rattle.std.specs.Prelude.{All, nat_lt}
 use Rattle.std.proofs.lemmas.Bool.{and_from, lt-ltb}
 use Rattle.std.proofs.lemmas.List.{get_or-map, length-map}
@@ -150,7 +150,7 @@ list_is lists w d lt = get_or-map (λ (v : Vec Push). v.items) lists w d [] lt
 pub lists_fit : (r : Rules) (shape : Shape) (lists : List (Vec Push)) → AreSent r shape (lists_of lists) → All (λ list. All (FitsIn r shape) list.items) lists
 lists_fit r shape lists sent = λ w d lt.
     let own = sent w (omega (arith, lt, length-map lists (λ v. v.items))) in
-    let here : All (IsFor r shape w) (get_or lists w d).items = subst (λ (ms : List Push). All (IsFor r shape w) ms) (list_is lists w d lt) own in
+    let here : All (IsMessageFor r shape w) (get_or lists w d).items = subst (λ (ms : List Push). All (IsMessageFor r shape w) ms) (list_is lists w d lt) own in
     λ k e below. ((here k e below).1, (here k e below).2)
 
 flat_all : (P : Push → Type 0) (lists : List (Vec Push)) → All (λ list. All P list.items) lists → All P (all_messages lists)
@@ -161,7 +161,7 @@ flat_all P (list ∷ lists) all =
 pub all_fit : (r : Rules) (o : Options) (lists : List (Vec Push)) → length lists ≡ o.workers → AreSent r o.shape (lists_of lists) → Fit r (layout_in o) (all_messages lists)
 all_fit r o lists workers sent = flat_all (λ m. fits r (layout_in o) m ≡ true) lists (λ w d lt.
     let own = sent w (omega (arith, lt, length-map lists (λ v. v.items))) in
-    let here : All (IsFor r o.shape w) (get_or lists w d).items = subst (λ (ms : List Push). All (IsFor r o.shape w) ms) (list_is lists w d lt) own in
+    let here : All (IsMessageFor r o.shape w) (get_or lists w d).items = subst (λ (ms : List Push). All (IsMessageFor r o.shape w) ms) (list_is lists w d lt) own in
     λ k e below.
     let m : Push = get_or (get_or lists w d).items k e in
     let is = here k e below in

@@ -4,8 +4,8 @@ use Rattle.logbook.specs.Pages.{Cell, Step, View, Book, Named}
 use Rattle.hash_rows.specs.declared.shape.Push.{Push}
 
 -- the first word is the length of the history. A book has two words, of which this one leaves the second at 0
-abbrev pub IsKept : List Cell → List Push → Type 0
-IsKept cells log = cells ≡ (length log, true) ∷ (0, true) ∷ []
+abbrev pub HoldsLength : List Cell → List Push → Type 0
+HoldsLength cells log = cells ≡ (length log, true) ∷ (0, true) ∷ []
 
 abbrev pub head_of : Book → Named
 head_of b = record { tracked = true; key = 0; book = b }

@@ -15,9 +15,9 @@ pub struct HistoryRule;
 impl Rule<Push, u64> for HistoryRule {
     ghost use Rattle.std.specs.Prelude.{[]};
     ghost use base.Fml.{ftrue};
-    ghost use Rattle.live_view.specs.HistoryRule.{IsKept};
+    ghost use Rattle.live_view.specs.HistoryRule.{HoldsLength};
 
-    ghost holds = { λ cells log. IsKept cells log };
+    ghost holds = { λ cells log. HoldsLength cells log };
 
     ghost first = { [] };
 

@@ -28,7 +28,7 @@ use Rattle.push_history.proofs.Fitting.{terms_len, updates_there}
 use Rattle.octo_engine.specs.Counts.{HasShare}
 use Rattle.octo_engine.specs.Looks.{AreLooks, layout_in, looks_wanted}
 use Rattle.octo_engine.specs.declared.worker.Part.{Part}
-use Rattle.octo_engine.specs.Rounds.{AreParts, AreTerms, IsAfter, Suit}
+use Rattle.octo_engine.specs.Rounds.{AreWorkersAfter, AreTerms, IsAfter, Suit}
 
 fit_by : (a b c : Bool) → a ≡ true → b ≡ true → c ≡ true → (a && (b && c)) ≡ true
 fit_by a b c x y z = ap₂ (λ u v. u && v) x (ap₂ (λ u v. u && v) y z)
@@ -93,11 +93,11 @@ back xs ys n len = sym (ap (λ k. take k (xs ++ ys)) (sym len) ∙ take-append_s
 
 module _ {K H : Type 0} (r : Rules) (stands : H → ℤ → ℤ → Type 0) (t : Terms) (o : Options) (packets : List Packet) where
   -- the parts, the state and the looks before the first round
-  pub after_none : (made parts : List (Part K H)) (state : StateView) (looks : Listed Answer) → AreParts stands t o packets 0 made → parts ≡ made → state ≡ fresh_state (layout_in o) → looks.items ≡ []
+  pub after_none : (made parts : List (Part K H)) (state : StateView) (looks : Listed Answer) → AreWorkersAfter stands t o packets 0 made → parts ≡ made → state ≡ fresh_state (layout_in o) → looks.items ≡ []
       → looks.room ≡ looks_wanted o → IsAfter stands r t o packets parts state looks
   after_none made parts state looks are same is none room = record {
     rounds = 0;
-    workers = subst (λ (ps : List (Part K H)). AreParts stands t o packets 0 ps) (sym same) are;
+    workers = subst (λ (ps : List (Part K H)). AreWorkersAfter stands t o packets 0 ps) (sym same) are;
     state_is = state_none r t o state is;
     seen = looks_none r t o looks none room;
   }

@@ -38,11 +38,11 @@ use Rattle.push_history.proofs.Fitting.{terms_laws, terms_len}
 use Rattle.round_law.proofs.OwnRounds.{idle_by_workers, worker_after}
 use Rattle.round_law.proofs.Settled.{settled_sequential}
 use Rattle.octo_engine.specs.declared.worker.Part.{Part}
-use Rattle.octo_engine.specs.Answers.{AreAnswers, IsAnswerOf}
+use Rattle.octo_engine.specs.Answers.{AreLooksByReader, IsLookFor}
 use Rattle.octo_engine.specs.Looks.{AreAllLooks, layout_in, looks_wanted}
 use Rattle.octo_engine.specs.Parts.{is_busy_part}
-use Rattle.octo_engine.specs.Residues.{HasJoined, HasRefused, IsKept, residues_of}
-use Rattle.octo_engine.specs.Rounds.{AreTerms, IsEnd}
+use Rattle.octo_engine.specs.Residues.{HasJoined, HasRefused, IsOfSomeRun, residues_of}
+use Rattle.octo_engine.specs.Rounds.{AreTerms, IsAtEnd}
 use Rattle.octo_engine.proofs.Places.{has_len}
 use Rattle.octo_engine.proofs.Rounding.{busy_is}
 
@@ -70,7 +70,7 @@ unfolding told_cells
 told_at r o messages cell lt = get_or-map-range_with_len (λ c. told_of r c messages) 0 (size_of o.shape) cell cell (pos 0) lt (omega arith)
 
 module _ (r : Rules) (t : Terms) (o : Options) (packets : List Packet) (terms : AreTerms r t o packets) (n : ℕ) where
-  look_of : (messages : List Push) (q k : ℕ) (look a : Answer) → IsLook r o messages look → IsAnswerOf q k look a → IsLook r o messages a
+  look_of : (messages : List Push) (q k : ℕ) (look a : Answer) → IsLook r o messages look → IsLookFor q k look a → IsLook r o messages a
   look_of messages q k look a is as_answer = record {
     folded = as_answer.folded ∙ is.folded;
     front = as_answer.front ∙ is.front;
@@ -78,7 +78,7 @@ module _ (r : Rules) (t : Terms) (o : Options) (packets : List Packet) (terms : 
     shown = as_answer.shown ∙ is.shown;
   }
 
-  answered : (looks answers : List Answer) → AreAllLooks r t o n looks → AreAnswers o.readers o.asks looks answers → (0 < o.readers → looks_wanted o ≡ o.asks)
+  answered : (looks answers : List Answer) → AreAllLooks r t o n looks → AreLooksByReader o.readers o.asks looks answers → (0 < o.readers → looks_wanted o ≡ o.asks)
       → (q k : ℕ) (a : Answer) → q < o.readers → k < o.asks → slice_get answers (q * o.asks + k) ≡ Some a → IsAnswerAt t o n q k a
   answered looks answers all are wanted q k a its_reader its_ask at =
       let many = all.len in
@@ -89,12 +89,12 @@ module _ (r : Rules) (t : Terms) (o : Options) (packets : List Packet) (terms : 
       record { reader = answer.its_reader; number = answer.its_number; look = subst (λ (z : Rules). IsLook z o (folded_after t o (min (k + 1) n)) a) (sym terms.runs.rules) seen }
 
 module _ {K H : Type 0} (stands : H → ℤ → ℤ → Type 0) (r : Rules) (t : Terms) (o : Options) (packets : List Packet) (terms : AreTerms r t o packets) (n : ℕ) where
-  pub shown : (parts : List (Part K H)) (state : StateView) → IsEnd stands r t o packets n parts state → Shows r (layout_in o) (folded_after t o n) state
+  pub shown : (parts : List (Part K H)) (state : StateView) → IsAtEnd stands r t o packets n parts state → Shows r (layout_in o) (folded_after t o n) state
   shown parts state end =
       let few = terms.runs.few n in
       subst (λ (s : StateView). Shows r (layout_in o) (folded_after t o n) s) (sym end.state_is) (shows_all r (layout_in o) (folded_after t o n) (terms.runs.fit n) (omega (arith, few)))
 
-  pub all_idle : (parts : List (Part K H)) (state : StateView) → IsEnd stands r t o packets n parts state → is_busy t o (events_of_rounds t o n) ≡ false
+  pub all_idle : (parts : List (Part K H)) (state : StateView) → IsAtEnd stands r t o packets n parts state → is_busy t o (events_of_rounds t o n) ≡ false
   all_idle parts state end =
       let len = end.workers.len in
       idle_by_workers t o terms.runs.workers n (λ w lt.
@@ -102,18 +102,18 @@ module _ {K H : Type 0} (stands : H → ℤ → ℤ → Type 0) (r : Rules) (t :
       let d = some_item parts w inside in
       sym (busy_is r stands t o packets terms n w (get_or parts w d) lt (end.workers.each w d lt)) ∙ none_at is_busy_part parts end.none w d inside)
 
-  pub kept : (parts : List (Part K H)) (state : StateView) → IsEnd stands r t o packets n parts state → (w : ℕ) (p : Part K H) → w < length parts → IsKept r stands state.table.shape w (slice_index_or parts w p).counter
+  pub kept : (parts : List (Part K H)) (state : StateView) → IsAtEnd stands r t o packets n parts state → (w : ℕ) (p : Part K H) → w < length parts → IsOfSomeRun r stands state.table.shape w (slice_index_or parts w p).counter
   kept parts state end w p lt =
       let len = end.workers.len in
       let part = end.workers.each w p (omega (arith, lt, len)) in
       record { t = t; x = own_rounds t o w n fresh_worker; rules = terms.runs.rules; keeps = part.keeps; cells = part.sound.fit.cells ∙ ap size_of (sym (shown parts state end).shape) }
 
-  pub whole : (parts : List (Part K H)) (state : StateView) → IsEnd stands r t o packets n parts state → length state.table.cells ≡ size_of state.table.shape
+  pub whole : (parts : List (Part K H)) (state : StateView) → IsAtEnd stands r t o packets n parts state → length state.table.cells ≡ size_of state.table.shape
   whole parts state end =
       let shows = shown parts state end in
       ap length shows.cells ∙ told_len r o (folded_after t o n) ∙ ap size_of (sym shows.shape)
 
-  marks_are : (parts : List (Part K H)) (state : StateView) (bits : List (List Bool)) → IsEnd stands r t o packets n parts state → HasRefused r stands parts bits → (w : ℕ) → w < o.workers
+  marks_are : (parts : List (Part K H)) (state : StateView) (bits : List (List Bool)) → IsAtEnd stands r t o packets n parts state → HasRefused r stands parts bits → (w : ℕ) → w < o.workers
       → AreMarks t w (worker_in (round_state t o n) w) (slice_index_or bits w [])
   marks_are parts state bits end refused w lt =
       let len = end.workers.len in
@@ -129,7 +129,7 @@ module _ {K H : Type 0} (stands : H → ℤ → ℤ → Type 0) (r : Rules) (t :
       })
 
   pub outcome_of : (parts : List (Part K H)) (state : StateView) (looks answers : List Answer) (bits : List (List Bool)) (pushes : List ℕ) (live : List FlowKey) (missed : ℕ)
-      → IsEnd stands r t o packets n parts state → AreAllLooks r t o n looks → (0 < o.readers → looks_wanted o ≡ o.asks) → AreAnswers o.readers o.asks looks answers → HasRefused r stands parts bits
+      → IsAtEnd stands r t o packets n parts state → AreAllLooks r t o n looks → (0 < o.readers → looks_wanted o ≡ o.asks) → AreLooksByReader o.readers o.asks looks answers → HasRefused r stands parts bits
       → pushes ≡ state.front → live ≡ state.heavy.keys → missed ≡ state.heavy.missed → IsOutcome t o n bits pushes answers live missed
   outcome_of parts state looks answers bits pushes live missed end all wanted are refused front keys least =
       let shows = shown parts state end in
@@ -172,7 +172,7 @@ settled_is packets o n cell lawful small =
 
 module _ {K H : Type 0} (stands : H → ℤ → ℤ → Type 0) (r : Rules) (packets : List Packet) (o : Options) (rules_is : r ≡ rules_in o) (lawful : IsLawful o) (small : All (λ p. p.amount < 2 ^ 32) packets)
     (terms : AreTerms r (terms_of packets o) o packets) where
-  pub table_is : (n : ℕ) (parts : List (Part K H)) (state : StateView) (old new : TableView) → IsEnd stands r (terms_of packets o) o packets n parts state → old ≡ state.table → new.shape ≡ old.shape
+  pub table_is : (n : ℕ) (parts : List (Part K H)) (state : StateView) (old new : TableView) → IsAtEnd stands r (terms_of packets o) o packets n parts state → old ≡ state.table → new.shape ≡ old.shape
       → length new.cells ≡ size_of new.shape
       → ((t : Terms) (xs : ℕ → Worker) → t.rules ≡ r → ((w : ℕ) (p : Part K H) → w < length parts → Keeps stands t w (slice_index_or parts w p).counter (xs w)) → HasJoined t xs (length parts) (size_of old.shape) old.cells new.cells)
       → new ≡ sequential_table r o.shape packets

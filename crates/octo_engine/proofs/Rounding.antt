@@ -24,8 +24,8 @@ use Rattle.round_law.proofs.Measure.{IsWithin, less_left, no_more_left, round_wi
 use Rattle.octo_engine.specs.declared.worker.Part.{Part}
 use Rattle.octo_engine.specs.Counts.{HasShare}
 use Rattle.octo_engine.specs.Looks.{AreLooks, Runs, layout_in}
-use Rattle.octo_engine.specs.Parts.{IsPart, RanBlock, block, is_busy_part, messages_in, part_work}
-use Rattle.octo_engine.specs.Rounds.{AreParts, AreTerms, IsAfter}
+use Rattle.octo_engine.specs.Parts.{IsWorkerAfter, RanBlock, block, is_busy_part, messages_in, part_work}
+use Rattle.octo_engine.specs.Rounds.{AreWorkersAfter, AreTerms, IsAfter}
 use Rattle.octo_engine.proofs.Places.{has_len}
 use Rattle.octo_engine.proofs.Running.{held_is}
 use Rattle.octo_engine.proofs.Stepping.{counted_by}
@@ -75,7 +75,7 @@ lt_by : (a b : ℕ) → nat_lt a b ≡ nat_lt 0 (b - a)
 lt_by a b = grind arith
 
 module _ {K H : Type 0} (r : Rules) (stands : H → ℤ → ℤ → Type 0) (t : Terms) (o : Options) (packets : List Packet) (terms : AreTerms r t o packets) where
-  within_is : (n w : ℕ) (p : Part K H) → IsPart stands t o packets n w p → IsWithin t w (own_rounds t o w n fresh_worker)
+  within_is : (n w : ℕ) (p : Part K H) → IsWorkerAfter stands t o packets n w p → IsWithin t w (own_rounds t o w n fresh_worker)
   within_is n w p is =
       let keeps = is.keeps in
       let taken = keeps.taken in
@@ -84,7 +84,7 @@ module _ {K H : Type 0} (r : Rules) (stands : H → ℤ → ℤ → Type 0) (t :
       let both = length-append keeps.cleared p.counter.queue in
       record { counted = keeps.within; taken = omega (arith, taken, few, queue, both) }
 
-  module _ (n w : ℕ) (p : Part K H) (lt : w < o.workers) (is : IsPart stands t o packets n w p) where
+  module _ (n w : ℕ) (p : Part K H) (lt : w < o.workers) (is : IsWorkerAfter stands t o packets n w p) where
     left_is : p.counter.sketch.room - p.counter.sketch.counted ≡ length (updates_by t w) - (own_rounds t o w n fresh_worker).counted
     left_is =
         let len = has_len r t o.shape packets w (share_of_worker o.share o.workers packets w) (terms.shares w lt) in
@@ -102,10 +102,10 @@ module _ {K H : Type 0} (r : Rules) (stands : H → ℤ → ℤ → Type 0) (t :
         (ap (λ k. nat_lt 0 k) (sym (held_is stands t w p.counter (own_rounds t o w n fresh_worker) is.keeps)))
 
   -- the parts after a block
-  pub parts_more : (n : ℕ) (parts new : List (Part K H)) → AreParts stands t o packets n parts → length new ≡ length parts
-      → ((w : ℕ) (p : Part K H) → w < length parts → RanBlock r stands o packets (slice_index_or parts w p) (slice_index_or new w p)) → AreParts stands t o packets (n + block) new
+  pub parts_more : (n : ℕ) (parts new : List (Part K H)) → AreWorkersAfter stands t o packets n parts → length new ≡ length parts
+      → ((w : ℕ) (p : Part K H) → w < length parts → RanBlock r stands o packets (slice_index_or parts w p) (slice_index_or new w p)) → AreWorkersAfter stands t o packets (n + block) new
   parts_more n parts new are len ran =
-      let each : (w : ℕ) (p : Part K H) → w < o.workers → IsPart stands t o packets (n + block) w (slice_index_or new w p) = λ w p lt.
+      let each : (w : ℕ) (p : Part K H) → w < o.workers → IsWorkerAfter stands t o packets (n + block) w (slice_index_or new w p) = λ w p lt.
       let old = are.each w p lt in
       let moved = ran w p (let many = are.len in omega (arith, lt, many)) in
       let has = subst (λ (l : List ℕ). HasShare r t o.shape packets w l) (sym old.share) (terms.shares w lt) in
@@ -118,7 +118,7 @@ module _ {K H : Type 0} (r : Rules) (stands : H → ℤ → ℤ → Type 0) (t :
       record { len = len ∙ are.len; each = each }
 
   -- what they give to be folded in each round of the block
-  pub given_more : (n : ℕ) (parts new : List (Part K H)) → AreParts stands t o packets n parts → length new ≡ length parts
+  pub given_more : (n : ℕ) (parts new : List (Part K H)) → AreWorkersAfter stands t o packets n parts → length new ≡ length parts
       → ((w : ℕ) (p : Part K H) → w < length parts → RanBlock r stands o packets (slice_index_or parts w p) (slice_index_or new w p)) → (k : ℕ) → k < block
       → flat_map (messages_in k) new ≡ flat_map (λ w. folded_in_round t o w (own_rounds t o w (n + k) fresh_worker)) (range_with_len 0 o.workers)
   given_more n parts new are len ran k below =
@@ -134,7 +134,7 @@ module _ {K H : Type 0} (r : Rules) (stands : H → ℤ → ℤ → Type 0) (t :
       by_place (messages_in k) (λ w. folded_in_round t o w (own_rounds t o w (n + k) fresh_worker)) new 0 each
       ∙ ap (λ m. flat_map (λ w. folded_in_round t o w (own_rounds t o w (n + k) fresh_worker)) (range_with_len 0 m)) (len ∙ many)
 
-  pub work_less : (n : ℕ) (parts new : List (Part K H)) → 1 ≤ o.batch → 1 ≤ o.shape.rows * o.round → AreParts stands t o packets n parts → AreParts stands t o packets (n + block) new
+  pub work_less : (n : ℕ) (parts new : List (Part K H)) → 1 ≤ o.batch → 1 ≤ o.shape.rows * o.round → AreWorkersAfter stands t o packets n parts → AreWorkersAfter stands t o packets (n + block) new
       → list_any is_busy_part parts ≡ true → sum_by part_work new < sum_by part_work parts
   work_less n parts new batch round old are busy =
       let len = old.len in
@@ -160,7 +160,7 @@ module _ {K H : Type 0} (r : Rules) (stands : H → ℤ → ℤ → Type 0) (t :
       sums_less part_work is_busy_part parts new (many ∙ sym len) each strict busy
 
   -- a block leaves less to do
-  pub busy_less : (n : ℕ) (parts new : List (Part K H)) → IsLawful o → AreParts stands t o packets n parts → length new ≡ length parts
+  pub busy_less : (n : ℕ) (parts new : List (Part K H)) → IsLawful o → AreWorkersAfter stands t o packets n parts → length new ≡ length parts
       → ((w : ℕ) (p : Part K H) → w < length parts → RanBlock r stands o packets (slice_index_or parts w p) (slice_index_or new w p)) → list_any is_busy_part parts ≡ true
       → sum_by part_work new < sum_by part_work parts
   busy_less n parts new lawful are len ran busy = work_less n parts new lawful.some_batch (some_round o lawful) are (parts_more n parts new are len ran) busy

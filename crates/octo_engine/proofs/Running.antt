@@ -8,7 +8,7 @@ use Rattle.std.proofs.lemmas.List.{get_or-set_same, get_or-set_other, take-appen
 use Rattle.hash_rows.specs.declared.options.Options.{Options}
 use Rattle.hash_rows.specs.declared.shape.Push.{Push}
 use Rattle.push_history.specs.LagRun.{Terms, Worker}
-use Rattle.push_history.specs.OwnSteps.{counted_in_round, folded_in_round, held_of, own_round, with_taken}
+use Rattle.push_history.specs.OwnSteps.{counted_in_round, folded_in_round, untaken_of, own_round, with_taken}
 use Rattle.push_rule.specs.Counters.{CounterView, Extends, in_lane}
 use Rattle.push_rule.specs.Keeps.{Keeps}
 use Rattle.round_law.specs.OwnRounds.{own_rounds}
@@ -16,7 +16,7 @@ use Rattle.octo_engine.specs.Counts.{IsFit}
 use Rattle.octo_engine.specs.Parts.{AreEnds, HasRun, block, cut_at, end_at}
 
 module _ {H : Type 0} (stands : H → ℤ → ℤ → Type 0) (t : Terms) (w : ℕ) where
-  pub held_is : (d : CounterView H) (x : Worker) → Keeps stands t w d x → held_of x ≡ in_lane d
+  pub held_is : (d : CounterView H) (x : Worker) → Keeps stands t w d x → untaken_of x ≡ in_lane d
   held_is d x keeps =
       let taken = keeps.taken in
       let len = ap length keeps.queue in
@@ -40,7 +40,7 @@ module _ {H : Type 0} (stands : H → ℤ → ℤ → Type 0) (t : Terms) (w : �
   unfolding folded_in_round
   given_is o mid x count from to keeps is starts ends =
       let c = counted_in_round t o w x in
-      let many : to - from ≡ min o.batch (held_of c) = omega (arith, starts, ends, is, held_is mid c keeps) in
+      let many : to - from ≡ min o.batch (untaken_of c) = omega (arith, starts, ends, is, held_is mid c keeps) in
       ap₂ (λ n (l : List Push). take n l) many (ap (λ k. drop k mid.queue) starts ∙ sym (lane_is mid c keeps))
 
 slice_grown : {A : Type 0} (xs more : List A) (a b : ℕ) → a ≤ b → b ≤ length xs → slice_range (xs ++ more) a b ≡ slice_range xs a b

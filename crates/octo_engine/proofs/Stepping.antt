@@ -8,7 +8,7 @@ use Rattle.hash_rows.specs.declared.shape.Push.{Push}
 use Rattle.push_history.specs.declared.event.Reply.{Reply}
 use Rattle.push_history.specs.declared.event.Reply.TheVariants.{Counted, Over}
 use Rattle.push_history.specs.LagRun.{Terms, Worker, updates_by, count_step, pushes, meets_full, message_of}
-use Rattle.push_history.specs.OwnSteps.{counts, counted_in_round, left_of}
+use Rattle.push_history.specs.OwnSteps.{counts, counted_in_round, uncounted_of}
 use Rattle.push_history.specs.Pushes.{distance_at}
 use Rattle.push_history.specs.Updates.{update_at, update_in_row}
 use Rattle.hash_rows.specs.declared.shape.Shape.{Shape}
@@ -200,5 +200,5 @@ module _ {H : Type 0} (stands : H → ℤ → ℤ → Type 0) (t : Terms) (w : �
   unfolding counted_in_round
   round_is o d d' x n keeps len is kept =
       let number = counted_by stands t w d x d.sketch.counted keeps refl in
-      let left : d.sketch.room - d.sketch.counted ≡ left_of t w x = omega (arith, len, number) in
+      let left : d.sketch.room - d.sketch.counted ≡ uncounted_of t w x = omega (arith, len, number) in
       subst (λ k. Keeps stands t w d' (counts t w k x)) (is ∙ ap (λ k. min (o.shape.rows * o.round) k) left) kept

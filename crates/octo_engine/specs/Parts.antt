@@ -44,7 +44,7 @@ module _ {K Held : Type 0} where
   messages_in k p = cut_at p.ends.items k p.counter.queue
 
   -- the part is fit, and its queue has room for a block
-  pub record IsSound (o : Options) (packets : ℕ) (p : Part K Held) : Type 0 where
+  pub record IsReadyForBlock (o : Options) (packets : ℕ) (p : Part K Held) : Type 0 where
     pub fit : IsFit o packets p.share p.counter
     pub room : o.lane + block * o.batch < p.counter.room
     pub ends : length p.ends.items ≡ block + 1
@@ -58,16 +58,16 @@ module _ {K Held : Type 0} where
   part_work p = 2 * (p.counter.sketch.room - p.counter.sketch.counted) + in_lane p.counter
 
   -- the part is worker w after n rounds
-  pub record IsPart (stands : Held → ℤ → ℤ → Type 0) (t : Terms) (o : Options) (packets : List Packet) (n w : ℕ)
+  pub record IsWorkerAfter (stands : Held → ℤ → ℤ → Type 0) (t : Terms) (o : Options) (packets : List Packet) (n w : ℕ)
       (p : Part K Held) : Type 0 where
     pub share : p.share ≡ share_of_worker o.share o.workers packets w
-    pub sound : IsSound o (length packets) p
+    pub sound : IsReadyForBlock o (length packets) p
     pub keeps : Keeps stands t w p.counter (own_rounds t o w n fresh_worker)
 
   -- a block of rounds of the worker: its part before and after
   pub record RanBlock (r : Rules) (stands : Held → ℤ → ℤ → Type 0) (o : Options) (packets : List Packet) (p q : Part K Held) : Type 0 where
     pub share : q.share ≡ p.share
-    pub sound : IsSound o (length packets) q
+    pub sound : IsReadyForBlock o (length packets) q
     pub ends : AreEnds q.ends.items block q.counter.taken
     pub run : (t : Terms) (w : ℕ) (x : Worker) → HasShare r t o.shape packets w p.share → Keeps stands t w p.counter x
         → HasRun stands t o w x block q.ends.items q.counter

@@ -23,7 +23,7 @@ HasJoined t xs n size old new = (cell : ℕ) → cell < size
 
 module _ {Held : Type 0} where
   -- the counter is that of a worker of some run, for a table of this shape
-  pub record IsKept (r : Rules) (stands : Held → ℤ → ℤ → Type 0) (shape : Shape) (w : ℕ) (d : CounterView Held) : Type 0 where
+  pub record IsOfSomeRun (r : Rules) (stands : Held → ℤ → ℤ → Type 0) (shape : Shape) (w : ℕ) (d : CounterView Held) : Type 0 where
     pub t : Terms
     pub x : Worker
     pub rules : t.rules ≡ r

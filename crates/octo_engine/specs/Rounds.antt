@@ -13,7 +13,7 @@ use Rattle.round_law.specs.OwnRounds.{folded_after}
 use Rattle.octo_engine.specs.declared.worker.Part.{Part}
 use Rattle.octo_engine.specs.Counts.{HasShare}
 use Rattle.octo_engine.specs.Looks.{AreLooks, Runs, layout_in}
-use Rattle.octo_engine.specs.Parts.{IsPart, is_busy_part}
+use Rattle.octo_engine.specs.Parts.{IsWorkerAfter, is_busy_part}
 
 -- the terms are of a run over these packets
 pub record AreTerms (r : Rules) (t : Terms) (o : Options) (packets : List Packet) : Type 0 where
@@ -30,22 +30,22 @@ pub record Suit (r : Rules) (t : Terms) (o : Options) : Type 0 where
 
 module _ {K Held : Type 0} where
   -- the parts are the workers after n rounds
-  pub record AreParts (stands : Held → ℤ → ℤ → Type 0) (t : Terms) (o : Options) (packets : List Packet) (n : ℕ)
+  pub record AreWorkersAfter (stands : Held → ℤ → ℤ → Type 0) (t : Terms) (o : Options) (packets : List Packet) (n : ℕ)
       (parts : List (Part K Held)) : Type 0 where
     pub len : length parts ≡ o.workers
-    pub each : (w : ℕ) (p : Part K Held) → w < o.workers → IsPart stands t o packets n w (slice_index_or parts w p)
+    pub each : (w : ℕ) (p : Part K Held) → w < o.workers → IsWorkerAfter stands t o packets n w (slice_index_or parts w p)
 
   -- the parts, the state and the looks are those after so many rounds
   pub record IsAfter (stands : Held → ℤ → ℤ → Type 0) (r : Rules) (t : Terms) (o : Options) (packets : List Packet)
       (parts : List (Part K Held)) (state : StateView) (looks : Listed Answer) : Type 0 where
     pub rounds : ℕ
-    pub workers : AreParts stands t o packets rounds parts
+    pub workers : AreWorkersAfter stands t o packets rounds parts
     pub state_is : state ≡ state_after r (layout_in o) (folded_after t o rounds)
     pub seen : AreLooks r t o rounds looks
 
   -- no worker is busy after n rounds
-  pub record IsEnd (stands : Held → ℤ → ℤ → Type 0) (r : Rules) (t : Terms) (o : Options) (packets : List Packet) (n : ℕ)
+  pub record IsAtEnd (stands : Held → ℤ → ℤ → Type 0) (r : Rules) (t : Terms) (o : Options) (packets : List Packet) (n : ℕ)
       (parts : List (Part K Held)) (state : StateView) : Type 0 where
-    pub workers : AreParts stands t o packets n parts
+    pub workers : AreWorkersAfter stands t o packets n parts
     pub state_is : state ≡ state_after r (layout_in o) (folded_after t o n)
     pub none : list_any is_busy_part parts ≡ false

@@ -6,7 +6,7 @@ ghost use Rattle.live_state.specs.Copies.{IsCopyOf, estimates_in};
 ghost use Rattle.live_state.specs.Fold.{state_after};
 ghost use Rattle.round_law.specs.OwnRounds.{folded_after};
 ghost use Rattle.octo_engine.specs.Looks.{AreAllLooks, AreLooks, Runs, layout_in, looks_wanted};
-ghost use Rattle.octo_engine.specs.Answers.{AreAnswers, IsAnswerOf, IsLike};
+ghost use Rattle.octo_engine.specs.Answers.{AreLooksByReader, IsLookFor, IsLike};
 
 use flow_base::NoMemory;
 use hash_rows::{Answer, Answers, Cells, Counts, Keys, Kind, Options, Sketch, ZERO_KEY};
@@ -125,7 +125,7 @@ fn estimate_all<K: Kind>(alloc: Global, state: &State<K>, keys: &Keys) -> Result
 pub fn answers_from(alloc: Global, looks: &Answers, options: &Options) -> Result<Answers, NoMemory>
     requires small { (options.now.readers ≤ 4) × (options.now.asks ≤ 1024) }
     requires looks { 0 < options.now.readers → length looks.now.items ≡ options.now.asks }
-    ensures { IfOk result (λ answers. AreAnswers options.now.readers options.now.asks looks.now.items answers.items) }
+    ensures { IfOk result (λ answers. AreLooksByReader options.now.readers options.now.asks looks.now.items answers.items) }
 {
     let mut answers = Listed::new(alloc, options.readers * options.asks)?;
     'readers: for reader in 0..options.readers {
@@ -156,7 +156,7 @@ fn answer_all(
 
 // The look as an answer of the reader.
 fn answer_as(alloc: Global, look: &Answer, reader: u32, number: u32) -> Result<Answer, NoMemory>
-    ensures { IfOk result (λ answer. IsAnswerOf reader number look.now answer) }
+    ensures { IfOk result (λ answer. IsLookFor reader number look.now answer) }
 {
     Ok(Answer {
         reader,

@@ -8,8 +8,8 @@ ghost use Rattle.push_history.specs.OwnSteps.{folded_in_round, own_round};
 ghost use Rattle.live_state.specs.Fold.{state_after, absorbed};
 ghost use Rattle.round_law.specs.OwnRounds.{folded_after, own_rounds};
 ghost use Rattle.octo_engine.specs.Looks.{AreLooks, Runs, layout_in};
-ghost use Rattle.octo_engine.specs.Parts.{AreEnds, block, is_busy_part, messages_in, HasRun, IsSound, RanBlock};
-ghost use Rattle.octo_engine.specs.Rounds.{AreParts, AreTerms, IsAfter};
+ghost use Rattle.octo_engine.specs.Parts.{AreEnds, block, is_busy_part, messages_in, HasRun, IsReadyForBlock, RanBlock};
+ghost use Rattle.octo_engine.specs.Rounds.{AreWorkersAfter, AreTerms, IsAfter};
 ghost use Rattle.push_rule.specs.Counters.{Extends};
 ghost use Rattle.push_rule.specs.Keeps.{Keeps};
 ghost use Rattle.octo_engine.specs.Counts.{HasShare, IsFit};
@@ -124,7 +124,7 @@ fn run_workers<K: Kind, R: Threads + Sync>(
     options: &Options,
 )
     requires lawful { IsLawful options.now }
-    requires sound { (w : ℕ) (p : _) → w < length parts.old → IsSound options.now (length packets.now) (slice_index_or parts.old w p) }
+    requires sound { (w : ℕ) (p : _) → w < length parts.old → IsReadyForBlock options.now (length packets.now) (slice_index_or parts.old w p) }
     ensures len { length parts.new ≡ length parts.old }
     ensures ran { (w : ℕ) (p : _) → w < length parts.old
         → RanBlock K.rules K.stands options.now packets.now (slice_index_or parts.old w p) (slice_index_or parts.new w p) }
@@ -138,7 +138,7 @@ fn run_workers<K: Kind, R: Threads + Sync>(
         parts,
         threads,
         &|_: usize, part: &mut Part<K>|
-            requires { IsLawful options.now × IsSound options.now (length packets.now) part.now }
+            requires { IsLawful options.now × IsReadyForBlock options.now (length packets.now) part.now }
             ensures { RanBlock K.rules K.stands options.entry.now packets.entry.now part.entry.now part.exit.now }
         { run_block(part, packets, options) },
     );
@@ -147,7 +147,7 @@ fn run_workers<K: Kind, R: Threads + Sync>(
 // The same, one worker after another.
 fn run_workers_alone<K: Kind>(parts: &mut [Part<K>], packets: &[Packet], options: &Options)
     requires lawful { IsLawful options.now }
-    requires sound { (w : ℕ) (p : _) → w < length parts.old → IsSound options.now (length packets.now) (slice_index_or parts.old w p) }
+    requires sound { (w : ℕ) (p : _) → w < length parts.old → IsReadyForBlock options.now (length packets.now) (slice_index_or parts.old w p) }
     ensures len { length parts.new ≡ length parts.old }
     ensures ran { (w : ℕ) (p : _) → w < length parts.old
         → RanBlock K.rules K.stands options.now packets.now (slice_index_or parts.old w p) (slice_index_or parts.new w p) }

@@ -4,7 +4,7 @@ ghost use Rattle.hash_rows.specs.Lawful.{IsLawful};
 ghost use Rattle.hash_rows.specs.Sequential.{sequential_table};
 ghost use Rattle.push_history.specs.Journal.{terms_of};
 ghost use Rattle.octo_engine.specs.Looks.{AreAllLooks};
-ghost use Rattle.octo_engine.specs.Rounds.{IsEnd};
+ghost use Rattle.octo_engine.specs.Rounds.{IsAtEnd};
 ghost use Rattle.octo_engine.specs.Settles.{HasOutcome};
 ghost use Rattle.std.specs.List.{range_with_len};
 ghost use Rattle.hash_rows.specs.Shapes.{size_of};
@@ -12,7 +12,7 @@ ghost use Rattle.hash_rows.specs.Tables.{value_at};
 ghost use Rattle.push_history.specs.LagRun.{Terms, Worker, updates_by};
 ghost use Rattle.push_history.specs.Residue.{residue};
 ghost use Rattle.push_rule.specs.Keeps.{Keeps};
-ghost use Rattle.octo_engine.specs.Residues.{HasJoined, HasRefused, IsKept, IsRow};
+ghost use Rattle.octo_engine.specs.Residues.{HasJoined, HasRefused, IsOfSomeRun, IsRow};
 
 use crate::looks::{answers_from, copy_counts};
 use crate::run::Settled;
@@ -39,7 +39,7 @@ pub fn settle<K: Kind>(
     requires sketch { options.now.sketch ≡ K.sketch }
     requires few { length packets.now ≤ 16777216 }
     requires amounts { All (λ p. p.amount < 2 ^ 32) packets.now }
-    requires end { (n : ℕ) × IsEnd K.stands K.rules (terms_of packets.now options.now) options.now packets.now n parts.items state
+    requires end { (n : ℕ) × IsAtEnd K.stands K.rules (terms_of packets.now options.now) options.now packets.now n parts.items state
         × AreAllLooks K.rules (terms_of packets.now options.now) options.now n looks.now.items }
     ensures outcome { IfOk result (λ s. HasOutcome (terms_of packets.now options.now) options.now s.lists) }
     ensures table { IfOk result (λ s. s.table ≡ sequential_table K.rules options.now.shape packets.now) }
@@ -71,7 +71,7 @@ fn table_of<K: Kind>(
     requires sketch { options.now.sketch ≡ K.sketch }
     requires few { length packets.now ≤ 16777216 }
     requires amounts { All (λ p. p.amount < 2 ^ 32) packets.now }
-    requires end { (n : ℕ) × IsEnd K.stands K.rules (terms_of packets.now options.now) options.now packets.now n parts.now state }
+    requires end { (n : ℕ) × IsAtEnd K.stands K.rules (terms_of packets.now options.now) options.now packets.now n parts.now state }
     ensures { result ≡ sequential_table K.rules options.now.shape packets.now }
 {
     let _packets = packets;
@@ -84,7 +84,7 @@ fn table_of<K: Kind>(
 // Joins into each cell what each worker counted of it and did not tell.
 fn join_residues<K: Kind>(table: &mut Table<K>, parts: &[Part<K>])
     requires kept { (w : ℕ) (p : _) → w < length parts.now
-        → IsKept K.rules K.stands table.old.shape w (slice_index_or parts.now w p).counter }
+        → IsOfSomeRun K.rules K.stands table.old.shape w (slice_index_or parts.now w p).counter }
     requires size { length table.old.cells ≡ size_of table.old.shape }
     ensures shape { table.new.shape ≡ table.old.shape }
     ensures size { length table.new.cells ≡ size_of table.new.shape }
@@ -99,7 +99,7 @@ fn join_residues<K: Kind>(table: &mut Table<K>, parts: &[Part<K>])
 
 // Joins into each cell what the worker counted of it and did not tell.
 fn join_residue<K: Kind>(table: &mut Table<K>, counter: &Counter<K>)
-    requires kept { (w : ℕ) × IsKept K.rules K.stands table.old.shape w counter.now }
+    requires kept { (w : ℕ) × IsOfSomeRun K.rules K.stands table.old.shape w counter.now }
     requires size { length table.old.cells ≡ size_of table.old.shape }
     ensures shape { table.new.shape ≡ table.old.shape }
     ensures size { length table.new.cells ≡ size_of table.new.shape }

@@ -9,8 +9,8 @@ ghost use Rattle.push_rule.specs.Keeps.{Keeps};
 ghost use Rattle.live_state.specs.Fold.{fresh_state};
 ghost use Rattle.octo_engine.specs.Looks.{layout_in};
 ghost use Rattle.shares.specs.Owners.{AreOwners};
-ghost use Rattle.octo_engine.specs.Parts.{IsSound, block};
-ghost use Rattle.octo_engine.specs.Rounds.{AreParts, Suit};
+ghost use Rattle.octo_engine.specs.Parts.{IsReadyForBlock, block};
+ghost use Rattle.octo_engine.specs.Rounds.{AreWorkersAfter, Suit};
 
 use crate::worker::{BLOCK, Part};
 use flow_base::NoMemory;
@@ -30,7 +30,7 @@ pub fn parts_of<K: Kind>(
     requires lawful { IsLawful options.now }
     requires sketch { options.now.sketch ≡ K.sketch }
     requires few { length packets.now ≤ 16777216 }
-    ensures parts { IfOk result (λ parts. AreParts K.stands (terms_of packets.now options.now) options.now packets.now 0 parts.items) }
+    ensures parts { IfOk result (λ parts. AreWorkersAfter K.stands (terms_of packets.now options.now) options.now packets.now 0 parts.items) }
     ensures amounts { OnOk result (All (λ p. p.amount < 2 ^ 32) packets.now) }
 {
     amounts_fit(packets);
@@ -73,7 +73,7 @@ fn part_of<K: Kind>(
     requires few { length packets.now ≤ 16777216 }
     requires owners { AreOwners options.now packets.now owners.now }
     ensures share { IfOk result (λ part. part.share ≡ share_of_worker options.now.share options.now.workers packets.now worker) }
-    ensures sound { IfOk result (λ part. IsSound options.now (length packets.now) part) }
+    ensures sound { IfOk result (λ part. IsReadyForBlock options.now (length packets.now) part) }
     ensures fresh { IfOk result (λ part. (t : Terms) → Suit K.rules t options.now → Keeps K.stands t worker part.counter fresh_worker) }
 {
     let share = positions_of(alloc, owners, worker, packets, options)?;

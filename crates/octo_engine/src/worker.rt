@@ -7,7 +7,7 @@ ghost use Rattle.push_history.specs.OwnSteps.{folded_in_round, own_round, counte
 ghost use Rattle.push_rule.specs.Counters.{Extends, KeepsSettings};
 ghost use Rattle.push_rule.specs.Keeps.{Keeps};
 ghost use Rattle.octo_engine.specs.Counts.{HasShare, IsFit, AreNext, HasCounted, HasMoved};
-ghost use Rattle.octo_engine.specs.Parts.{AreEnds, HasRun, IsSound, RanBlock, block, is_busy_part};
+ghost use Rattle.octo_engine.specs.Parts.{AreEnds, HasRun, IsReadyForBlock, RanBlock, block, is_busy_part};
 ghost use Rattle.hash_rows.specs.Shapes.{IsShape, size_of};
 ghost use Rattle.push_history.specs.Rounds.{is_waits};
 
@@ -35,9 +35,9 @@ pub struct Part<K: Kind> {
 /// Runs a block of rounds of the worker.
 pub fn run_block<K: Kind>(part: &mut Part<K>, packets: &[Packet], options: &Options)
     requires lawful { IsLawful options.now }
-    requires sound { IsSound options.now (length packets.now) part.old }
+    requires sound { IsReadyForBlock options.now (length packets.now) part.old }
     ensures share { part.new.share ≡ part.old.share }
-    ensures sound { IsSound options.now (length packets.now) part.new }
+    ensures sound { IsReadyForBlock options.now (length packets.now) part.new }
     ensures ends { AreEnds part.new.ends.items block part.new.counter.taken }
     ensures run { (t : Terms) (w : ℕ) (x : Worker) → HasShare K.rules t options.now.shape packets.now w part.old.share
         → Keeps K.stands t w part.old.counter x → HasRun K.stands t options.now w x block part.new.ends.items part.new.counter }

@@ -11,7 +11,7 @@ use Rattle.words.specs.declared.command.Command.{Command}
 use Rattle.words.specs.declared.command.Command.TheVariants.{Run, Load, Prefix, Epochs, Audit}
 use Rattle.octo_run.specs.Ends.{CutShort, HasReason, IsEnd, IsTold, Reported, Side, side}
 use Rattle.octo_run.specs.Faults.{TellsLine, fault_line, status_of}
-use Rattle.octo_run.specs.Refusals.{HasJournal, Input, IsAccepted, IsDifference, IsRefusal, IsUnrefused, OfCapture, OfJournal, Refuses}
+use Rattle.octo_run.specs.Refusals.{HasJournal, Input, IsAccepted, IsDifference, IsRefusal, IsUnrefused, OfCapture, OfJournal, HoldsFault}
 use Rattle.octo_run.specs.Runs.{GivenFor, HasText, input_of}
 use Rattle.octo_run.specs.declared.faults.Fault.{Fault}
 use Rattle.octo_run.specs.declared.faults.Fault.TheVariants.{Usage as UsageFault, ReadFault as SourceFault, WriteFault as SinkFault, Bad as BadFault, BadLine as LineFault, NoMemory as MemoryFault, Differs as JournalFault}
@@ -70,7 +70,7 @@ module _ (input : Input) (Reads : (List ℕ → List ℕ → Type 0) → Type 0)
     cut is = (write_reason is).1
 
     pub refused : (status ≡ BadCapture) ⊎ (status ≡ TooMany) → (fault : Fault) × IsRefusal input fault × (status ≡ status_of fault)
-        × Reads (λ given rest. Refuses input given rest fault) × TellsLine err.bytes err'.bytes err.faults err'.faults (fault_line fault)
+        × Reads (λ given rest. HoldsFault input given rest fault) × TellsLine err.bytes err'.bytes err.faults err'.faults (fault_line fault)
     refused either = by (bad_fault f.0 (elim either [ inl is ↦ inl (sym f.1 ∙ is) | inr is ↦ inr (sym f.1 ∙ is) ]))
       where
         other : status ≢ Done
@@ -85,7 +85,7 @@ module _ (input : Input) (Reads : (List ℕ → List ℕ → Type 0) → Type 0)
 
         by : ((bad : Refusal) × (f.0 ≡ BadFault bad)) ⊎ ((line : ℕ) × (f.0 ≡ LineFault line))
             → (fault : Fault) × IsRefusal input fault × (status ≡ status_of fault)
-            × Reads (λ given rest. Refuses input given rest fault) × TellsLine err.bytes err'.bytes err.faults err'.faults (fault_line fault)
+            × Reads (λ given rest. HoldsFault input given rest fault) × TellsLine err.bytes err'.bytes err.faults err'.faults (fault_line fault)
         by (inl b) = (
           BadFault b.0,
           refusal_of_capture input b.0,

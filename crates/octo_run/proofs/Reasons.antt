@@ -18,15 +18,15 @@ use Rattle.capture_load.specs.declared.capture.Refusal.TheVariants.{Pcap, Ng}
 use Rattle.push_history.specs.Journal.{Journal}
 use Rattle.octo_run.specs.Ends.{HasReason, Side}
 use Rattle.octo_run.specs.Faults.{fault_of}
-use Rattle.octo_run.specs.Refusals.{HoldsBehind, Input, IsUnrefused, OfCapture, OfJournal, Refuses}
+use Rattle.octo_run.specs.Refusals.{HoldsBehind, Input, IsUnrefused, OfCapture, OfJournal, HoldsFault}
 use Rattle.octo_run.specs.declared.faults.Fault.{Fault}
 use Rattle.octo_run.specs.declared.faults.Fault.TheVariants.{Usage as UsageFault, ReadFault as SourceFault, WriteFault as SinkFault, Bad as BadFault, BadLine as LineFault, NoMemory as MemoryFault, Differs as JournalFault}
 
 -- a capture that isn't loaded
 pub stop_reason : (input : Input) (Reads : (List ℕ → List ℕ → Type 0) → Type 0) (IsText : List ℕ → List ℕ → Type 0) (source source' out out' : Side) (stop : LoadStop)
     → (stop ≡ SourceStop → Rose source.faults source'.faults) → (stop ≡ SourceStop → Reads (IsUnrefused input))
-    → ((bad : Bad) → stop ≡ BadStop bad → Reads (λ given rest. Refuses input given rest (BadFault (Pcap bad))))
-    → ((bad : NgBad) → stop ≡ NgStop bad → Reads (λ given rest. Refuses input given rest (BadFault (Ng bad))))
+    → ((bad : Bad) → stop ≡ BadStop bad → Reads (λ given rest. HoldsFault input given rest (BadFault (Pcap bad))))
+    → ((bad : NgBad) → stop ≡ NgStop bad → Reads (λ given rest. HoldsFault input given rest (BadFault (Ng bad))))
     → HasReason input Reads IsText source source' out out' (fault_of stop)
 stop_reason input Reads IsText source source' out out' SourceStop rose unrefused bad ng = (rose refl, unrefused refl)
 stop_reason input Reads IsText source source' out out' (BadStop b) rose unrefused bad ng = bad b refl
@@ -40,7 +40,7 @@ early given bad (inr ended) = absurd (let e : 0 ∷ [] ≡ [] = ended.0 in cc)
 
 module _ (given rest : List ℕ) where
   -- nothing but a capture is read
-  pub accepted_capture : ((bad : Refusal) → HoldsRefusal given rest bad → ⊥) → (fault : Fault) → Refuses OfCapture given rest fault → ⊥
+  pub accepted_capture : ((bad : Refusal) → HoldsRefusal given rest bad → ⊥) → (fault : Fault) → HoldsFault OfCapture given rest fault → ⊥
   accepted_capture none UsageFault refuses = refuses
   accepted_capture none SourceFault refuses = refuses
   accepted_capture none SinkFault refuses = refuses
@@ -85,7 +85,7 @@ module _ (given behind : List ℕ) (content : Journal) (read : IsReadText given 
   same_behind : (d : Journal) (other : List ℕ) → IsReadText given d other → other ≡ behind
   same_behind d other told = (one_front told.0 read.0 other behind d content told.2 read.2 (sym told.1 ∙ read.1)).1
 
-  pub accepted_journal : (rest : List ℕ) → ((bad : Refusal) → HoldsRefusal behind rest bad → ⊥) → (fault : Fault) → Refuses OfJournal given rest fault → ⊥
+  pub accepted_journal : (rest : List ℕ) → ((bad : Refusal) → HoldsRefusal behind rest bad → ⊥) → (fault : Fault) → HoldsFault OfJournal given rest fault → ⊥
   accepted_journal rest none UsageFault refuses = refuses
   accepted_journal rest none SourceFault refuses = refuses
   accepted_journal rest none SinkFault refuses = refuses
@@ -107,5 +107,5 @@ module _ (given behind : List ℕ) (content : Journal) (read : IsReadText given 
   unrefused_journal rest none (JournalFault line kept lawful) refuses = refuses []
 
   -- a refusal behind it
-  pub refuses_behind : (rest : List ℕ) (bad : Refusal) → HoldsRefusal behind rest bad → Refuses OfJournal given rest (BadFault bad)
+  pub refuses_behind : (rest : List ℕ) (bad : Refusal) → HoldsRefusal behind rest bad → HoldsFault OfJournal given rest (BadFault bad)
   refuses_behind rest bad holds = (content, behind, read, holds)

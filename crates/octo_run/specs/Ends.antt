@@ -5,7 +5,7 @@ use Rattle.flow_base.specs.Flow.{grown, TookFront}
 use Rattle.flow_base.specs.declared.status.Status.{Status}
 use Rattle.flow_base.specs.declared.status.Status.TheVariants.{Done}
 use Rattle.octo_run.specs.Faults.{TellsLine, fault_line, status_of}
-use Rattle.octo_run.specs.Refusals.{HasJournal, Input, IsAccepted, IsDifference, IsRefusal, IsUnrefused, Refuses}
+use Rattle.octo_run.specs.Refusals.{HasJournal, Input, IsAccepted, IsDifference, IsRefusal, IsUnrefused, HoldsFault}
 use Rattle.octo_run.specs.declared.faults.Fault.{Fault}
 use Rattle.octo_run.specs.declared.faults.Fault.TheVariants.{Usage as UsageFault, ReadFault as SourceFault, WriteFault as SinkFault}
 use Rattle.octo_run.specs.declared.faults.Fault.TheVariants.{Bad as BadFault, BadLine as LineFault, NoMemory as MemoryFault, Differs as JournalFault}
@@ -39,9 +39,9 @@ HasReason input Reads IsText source source' out out' UsageFault = ⊥
 HasReason input Reads IsText source source' out out' SourceFault = Rose source.faults source'.faults × Reads (IsUnrefused input)
 HasReason input Reads IsText source source' out out' SinkFault =
     Rose out.faults out'.faults × Reads (CutShort IsText out.bytes out'.bytes) × Reads (IsAccepted input)
-HasReason input Reads IsText source source' out out' (BadFault refusal) = Reads (λ given rest. Refuses input given rest (BadFault refusal))
+HasReason input Reads IsText source source' out out' (BadFault refusal) = Reads (λ given rest. HoldsFault input given rest (BadFault refusal))
 HasReason input Reads IsText source source' out out' (LineFault line) =
-    HasJournal input × Reads (λ given rest. Refuses input given rest (LineFault line))
+    HasJournal input × Reads (λ given rest. HoldsFault input given rest (LineFault line))
 HasReason input Reads IsText source source' out out' MemoryFault = Unit {0}
 HasReason input Reads IsText source source' out out' (JournalFault line kept lawful) =
     HasJournal input × Reads (IsDifference input line kept lawful) × Reads (IsAccepted input)

@@ -26,20 +26,20 @@ IsRefusal OfJournal (LineFault line) = Unit {0}
 IsRefusal OfJournal fault = ⊥
 
 -- the bytes given, with this left behind them, hold the refusal that the fault tells
-abbrev pub Refuses : Input → List ℕ → List ℕ → Fault → Type 0
-Refuses OfCapture given rest (BadFault refusal) = HoldsRefusal given rest refusal
-Refuses OfCapture given rest fault = ⊥
-Refuses OfJournal given rest (BadFault refusal) = HoldsBehind given rest refusal
-Refuses OfJournal given rest (LineFault line) = HoldsBadLine given rest line
-Refuses OfJournal given rest fault = ⊥
+abbrev pub HoldsFault : Input → List ℕ → List ℕ → Fault → Type 0
+HoldsFault OfCapture given rest (BadFault refusal) = HoldsRefusal given rest refusal
+HoldsFault OfCapture given rest fault = ⊥
+HoldsFault OfJournal given rest (BadFault refusal) = HoldsBehind given rest refusal
+HoldsFault OfJournal given rest (LineFault line) = HoldsBadLine given rest line
+HoldsFault OfJournal given rest fault = ⊥
 
 -- all bytes were given, and they hold no refusal
 abbrev pub IsAccepted : Input → List ℕ → List ℕ → Type 0
-IsAccepted input given rest = (rest ≡ []) × ((fault : Fault) → Refuses input given rest fault → ⊥)
+IsAccepted input given rest = (rest ≡ []) × ((fault : Fault) → HoldsFault input given rest fault → ⊥)
 
 -- the bytes given hold no refusal before the end of input: none that they would hold whatever followed
 abbrev pub IsUnrefused : Input → List ℕ → List ℕ → Type 0
-IsUnrefused input given rest = (fault : Fault) → ((more : List ℕ) → Refuses input given more fault) → ⊥
+IsUnrefused input given rest = (fault : Fault) → ((more : List ℕ) → HoldsFault input given more fault) → ⊥
 
 -- all bytes were given, and the journal among them isn't lawful, first in this line by these words
 abbrev pub IsDifference : Input → ℕ → List ℕ → List ℕ → List ℕ → List ℕ → Type 0

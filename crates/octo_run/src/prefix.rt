@@ -4,7 +4,7 @@ ghost use Rattle.flow_base.specs.Flow.{Given, behind};
 ghost use Rattle.prefixes.specs.Networks.{AreWatched};
 ghost use Rattle.prefix_stack.specs.Runs.{IsStackRun};
 ghost use Rattle.prefix_report.specs.PrefixText.{report_text};
-ghost use Rattle.prefix_report.specs.Reports.{IsComplete};
+ghost use Rattle.prefix_report.specs.Reports.{HasEachLength};
 ghost use Rattle.octo_run.specs.Ends.{IsEnd, side};
 ghost use Rattle.octo_run.specs.Refusals.{OfCapture};
 ghost use Rattle.octo_run.specs.Networks.{IsPrefixText};
@@ -37,7 +37,7 @@ impl<'a, R: Threads + Sync> Task for OnNetworks<'a, R> {
 
     ghost is_text = { λ task. IsPrefixText task.options.now task.watch.now };
 
-    ghost fits = { λ task. IsComplete };
+    ghost fits = { λ task. HasEachLength };
 
     ghost text = { λ task. report_text };
 

@@ -7,7 +7,7 @@ ghost use Rattle.octo_run.specs.Audits.{DiffersAt};
 ghost use Rattle.octo_run.specs.Ends.{CutShort, IsEnd, IsTold, Reported, side};
 ghost use Rattle.octo_run.specs.Epochs.{IsEpochsText};
 ghost use Rattle.octo_run.specs.Faults.{TellsLine, fault_line, status_of};
-ghost use Rattle.octo_run.specs.Refusals.{IsAccepted, IsRefusal, IsUnrefused, OfCapture, Refuses};
+ghost use Rattle.octo_run.specs.Refusals.{IsAccepted, IsRefusal, IsUnrefused, OfCapture, HoldsFault};
 ghost use Rattle.octo_run.specs.Runs.{GivenFor, HasText, IsRunText, Leaves, Spares, input_of};
 ghost use Rattle.octo_run.specs.declared.faults.Fault.{Fault};
 ghost use Rattle.hash_rows.specs.declared.options.Options.{Options};
@@ -158,7 +158,7 @@ pub fn octo<R: Threads + Wait + Sync, S: Source, T: Sink, E: Sink, G: Gate>(
     ensures bad { (result ≡ Status.BadCapture) ⊎ (result ≡ Status.TooMany)
         → (command : Command) → Gives (map string_bytes words.now) command
         → (fault : Fault) × IsRefusal (input_of command) fault × (result ≡ status_of fault)
-        × GivenFor command (S.left source.old) (S.left source.new) (λ given rest. Refuses (input_of command) given rest fault)
+        × GivenFor command (S.left source.old) (S.left source.new) (λ given rest. HoldsFault (input_of command) given rest fault)
         × TellsLine (E.holds err.old) (E.holds err.new) (E.faults err.old) (E.faults err.new) (fault_line fault) }
     // With `audit` alone: all bytes were read, and the line on `err` has the first line of the journal
     // that fails, and both its words.

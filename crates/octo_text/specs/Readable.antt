@@ -9,7 +9,7 @@ use Rattle.octo_text.specs.Content.{IsAnswerFor}
 use Rattle.octo_text.specs.declared.journal.Journal.{Journal}
 
 -- few enough watched keys, workers and refused updates that the lines of the workers can be counted
-pub record IsShort (j : Journal) : Type 0 where
+pub record HasCountableLines (j : Journal) : Type 0 where
   pub watched : length j.options.watch.items ≤ 16
   pub workers : length j.lists.refused.items ≤ 16
   pub refused : All (λ bits. length bits ≤ 134217728) j.lists.refused.items
@@ -32,7 +32,7 @@ pub record CanBeJudged (o : Options) (a : Answer) : Type 0 where
 -- messages
 pub record IsReadable (j : Journal) : Type 0 where
   pub lawful : IsLawful j.options
-  pub short : IsShort j
+  pub short : HasCountableLines j
   pub workers : HasWorkers j
   pub pushes : All (λ n. n ≤ 134217728) j.lists.pushes.items
   pub places : places_of (map parts_of j.lists.answers.items) ≡ places_by j.options.readers j.options.asks

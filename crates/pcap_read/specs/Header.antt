@@ -50,6 +50,6 @@ pub record HasHeader (order : Order) (bytes : List ℕ) : Type 0 where
   pub order_is : order_of (big_number 4 (take header_len bytes)) ≡ Some order
 
 -- part of a header, and not refused
-pub record IsShort (bytes : List ℕ) : Type 0 where
+pub record IsPartOfHeader (bytes : List ℕ) : Type 0 where
   pub few : length bytes < header_len
   pub fine : header_refusal bytes ≡ None

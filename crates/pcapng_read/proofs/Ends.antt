@@ -2,7 +2,7 @@
 use Rattle.std.proofs.Common.{◌≡◌, ◌<◌, ℕ, List, [], ◌∷◌, length, Option, Some, None, refl, sym, ap, ◌∙◌, subst, inr, arith}
 use Rattle.pcap_read.specs.Records.{Framed}
 use Rattle.pcap_read.specs.declared.bad.Order.{Order}
-use Rattle.pcapng_read.specs.Blocks.{start, behind, behind_by}
+use Rattle.pcapng_read.specs.Blocks.{start, walk_past, behind_by}
 use Rattle.pcapng_read.specs.Capture.{Block, Cuts, NgCaptureOf, walk_behind}
 use Rattle.pcapng_read.specs.View.{NgReaderView, Stands}
 use Rattle.pcapng_read.specs.Takes.{end_in, outcome_of}
@@ -17,10 +17,10 @@ has_order w order total (Interface snapshot) = refl
 has_order w order total (Packet at captured original) = refl
 has_order w order total Passed = refl
 
--- behind blocks there is an order
+-- walk_past blocks there is an order
 still_order : (w : Walk) (bs : List Block) (order : Order) → w.order ≡ Some order → (walk_behind w bs).order ≡ None → ⊥
 still_order w [] order is none = let e : Some order ≡ None = sym is ∙ none in absurd (cc)
-still_order w (b ∷ bs) order is none = still_order (behind w b.plan) bs b.plan.order (has_order w b.plan.order b.plan.total b.plan.body) none
+still_order w (b ∷ bs) order is none = still_order (walk_past w b.plan) bs b.plan.order (has_order w b.plan.order b.plan.total b.plan.body) none
 
 -- before the first block there is none
 some_blocks : (bs : List Block) (order : Order) → (walk_behind start bs).order ≡ Some order → 0 < length bs
@@ -33,7 +33,7 @@ ends_none limit bytes [] rest fs seen cut none is =
     let same : bytes ≡ rest = cut.parts in
     inr (subst (λ (t : List ℕ). Cuts limit bytes [] t) (sym same) cut, ap ShortSection (is ∙ ap length (sym same)))
 ends_none limit bytes (b ∷ bs) rest fs seen cut none is =
-    absurd (still_order (behind start b.plan) bs b.plan.order (has_order start b.plan.order b.plan.total b.plan.body) none)
+    absurd (still_order (walk_past start b.plan) bs b.plan.order (has_order start b.plan.order b.plan.total b.plan.body) none)
 
 ends_by : (view : NgReaderView) (bytes : List ℕ) (fs : List Framed) (o : Option Order) (h : Stands view bytes fs) → view.walk.order ≡ o
     → NgCaptureOf view.limit bytes (outcome_of fs (end_in view.seen o))

@@ -4,7 +4,7 @@ use Rattle.std.specs.List.{flat_map}
 use Rattle.std.proofs.lemmas.Grind.{flat_map-append}
 use Rattle.std.proofs.lemmas.List.{take-append-drop, take_all, length_push}
 use Rattle.pcap_read.specs.Records.{Framed}
-use Rattle.pcapng_read.specs.Blocks.{start, behind}
+use Rattle.pcapng_read.specs.Blocks.{start, walk_past}
 use Rattle.pcapng_read.specs.Capture.{Block, text, framed, AreBlocks, walk_behind, RefusesNext}
 use Rattle.pcapng_read.specs.View.{NgReaderView, Stands}
 use Rattle.pcapng_read.specs.Takes.{Takes, TakesPacket, GoesOn}
@@ -26,13 +26,13 @@ blocks_front limit w [] cs x y ab ac stop e = (cs, refl)
 blocks_front limit w (b ∷ bs) [] x y ab ac stop e = absurd (stop b (flat_map text bs ++ x) ab.0 (sym e ∙ append_assoc b.bytes (flat_map text bs) x))
 blocks_front limit w (b ∷ bs) (c ∷ cs) x y ab ac stop e =
     let same = firsts_same limit w b c bs cs x y ab.0 ac.0 e in
-    let here = ap (λ (t : Block). behind w t.plan) same.0 in
-    let others = blocks_front limit (behind w b.plan) bs cs x y ab.1
+    let here = ap (λ (t : Block). walk_past w t.plan) same.0 in
+    let others = blocks_front limit (walk_past w b.plan) bs cs x y ab.1
     (subst (λ (v : Walk). AreBlocks limit v cs) (sym here) ac.1)
     (subst (λ (v : Walk). Stops limit (walk_behind v cs) y) (sym here) stop) same.1 in
     (others.0, ap (λ (t : Block). t ∷ cs) (sym same.0) ∙ ap (λ (t : List Block). b ∷ t) others.1)
 
--- a packet that is whole comes before the refusals behind it
+-- a packet that is whole comes before the refusals walk_past it
 packet_first : (view : NgReaderView) (a z : List ℕ) (fs : List Framed) (next : Framed) (bad : NgBad) → Stands view a (fs ++ next ∷ []) → RefusesNext view.limit (a ++ z) fs bad → ⊥
 packet_first view a z fs next bad h r =
     let parts : flat_map text h.blocks ++ (h.rest ++ z) ≡ flat_map text r.blocks ++ r.rest =

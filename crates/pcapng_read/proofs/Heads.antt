@@ -5,7 +5,7 @@ use Rattle.pcap_read.specs.Records.{most_captured}
 use Rattle.pcap_read.proofs.Numbers.{number_at_append}
 use Rattle.pcap_read.specs.declared.bad.Order.{Order}
 use Rattle.pcap_read.specs.declared.bad.Order.TheVariants.{Big}
-use Rattle.pcapng_read.specs.Blocks.{block_judged, enhanced_judged, first_judged, interface_judged, is_length, judged, judged_in, link_judged, need, numbered_judged, packet_judged, padded, passed_judged, place_in, plan_of, section_in, section_judged, section_order, section_type, simple_captured, simple_in, simple_judged, version_judged}
+use Rattle.pcapng_read.specs.Blocks.{block_judged, enhanced_judged, first_judged, interface_judged, is_length, judged, judged_in, link_judged, need, numbered_judged, packet_judged, padded, passed_judged, told_offset, plan_of, section_in, section_judged, section_order, section_type, simple_captured, simple_in, simple_judged, version_judged}
 use Rattle.pcapng_read.specs.Plans.{Late}
 use Rattle.pcapng_read.specs.declared.bad.NgBad.{NgBad}
 use Rattle.pcapng_read.specs.declared.bad.NgBad.TheVariants.{BadOrder, BadVersion, BadBlock, NotEthernet, NoInterface, TooLong, TooMany}
@@ -46,7 +46,7 @@ section_in_late : (limit : ℕ) (w : Walk) (n : ℕ) (x : List ℕ) (o : Option 
 unfolding section_in
 section_in_late limit w n x None le few = tt
 section_in_late limit w n x (Some order) le few =
-    late_if limit w n (not (is_length 28 (number_at order 4 x 4))) (BadBlock (place_in w) (number_at order 4 x 4)) _
+    late_if limit w n (not (is_length 28 (number_at order 4 x 4))) (BadBlock (told_offset w) (number_at order 4 x 4)) _
     (λ e. late_need limit w n 16 x _ (version_late limit w n order (number_at order 4 x 4) (number_at order 2 x 12) (number_at order 2 x 14) le (long_by 28 (number_at order 4 x 4) e) few))
 
 section_late : (limit : ℕ) (w : Walk) (n : ℕ) (x : List ℕ) → n ≤ 16 → Late limit w n (section_judged limit w x)
@@ -65,7 +65,7 @@ interface_late : (limit : ℕ) (w : Walk) (n : ℕ) (order : Order) (x : List �
 unfolding interface_judged
 interface_late limit w n order x le =
     late_if limit w n (w.others == limit) TooMany _
-    (λ few. late_if limit w n (not (is_length 20 (number_at order 4 x 4))) (BadBlock (place_in w) (number_at order 4 x 4)) _
+    (λ few. late_if limit w n (not (is_length 20 (number_at order 4 x 4))) (BadBlock (told_offset w) (number_at order 4 x 4)) _
     (λ e. late_need limit w n 16 x _ (link_late limit w n order (number_at order 4 x 4) (number_at order 2 x 8) (number_at order 4 x 12) le (long_by 20 (number_at order 4 x 4) e) (other_by w.others limit few))))
 
 -- padding takes no byte away
@@ -75,8 +75,8 @@ padded_le n = omega arith
 packet_late : (limit : ℕ) (w : Walk) (n : ℕ) (order : Order) (total at captured original : ℕ) → n ≤ at → 8 ≤ at → at ≤ 28 → w.packets ≢ limit → Late limit w n (packet_judged w order total at captured original)
 unfolding packet_judged
 packet_late limit w n order total at captured original le least near few =
-    late_if limit w n (nat_lt most_captured captured) (TooLong (place_in w) captured) _
-    (λ s. late_if limit w n (nat_lt total (at + 4 + padded captured)) (BadBlock (place_in w) total) _
+    late_if limit w n (nat_lt most_captured captured) (TooLong (told_offset w) captured) _
+    (λ s. late_if limit w n (nat_lt total (at + 4 + padded captured)) (BadBlock (told_offset w) total) _
     (λ t.
     let small : captured ≤ most_captured = grind arith in
     let fits : at + 4 + padded captured ≤ total = grind arith in
@@ -87,25 +87,25 @@ enhanced_late : (limit : ℕ) (w : Walk) (n : ℕ) (order : Order) (x : List ℕ
 unfolding enhanced_judged numbered_judged
 enhanced_late limit w n order x le =
     late_if limit w n (w.packets == limit) TooMany _
-    (λ few. late_if limit w n (not (is_length 32 (number_at order 4 x 4))) (BadBlock (place_in w) (number_at order 4 x 4)) _
+    (λ few. late_if limit w n (not (is_length 32 (number_at order 4 x 4))) (BadBlock (told_offset w) (number_at order 4 x 4)) _
     (λ e. late_need limit w n 28 x _
-    (late_if limit w n (nat_le w.interfaces (number_at order 4 x 8)) (NoInterface (place_in w) (number_at order 4 x 8)) _
+    (late_if limit w n (nat_le w.interfaces (number_at order 4 x 8)) (NoInterface (told_offset w) (number_at order 4 x 8)) _
     (λ _. packet_late limit w n order (number_at order 4 x 4) 28 (number_at order 4 x 20) (number_at order 4 x 24) le (omega arith) (omega arith) (other_by w.packets limit few)))))
 
 simple_late : (limit : ℕ) (w : Walk) (n : ℕ) (order : Order) (x : List ℕ) → n ≤ 12 → Late limit w n (simple_judged limit w order x)
 unfolding simple_judged simple_in
 simple_late limit w n order x le =
     late_if limit w n (w.packets == limit) TooMany _
-    (λ few. late_if limit w n (not (is_length 16 (number_at order 4 x 4))) (BadBlock (place_in w) (number_at order 4 x 4)) _
+    (λ few. late_if limit w n (not (is_length 16 (number_at order 4 x 4))) (BadBlock (told_offset w) (number_at order 4 x 4)) _
     (λ e. late_need limit w n 12 x _
-    (late_if limit w n (w.interfaces == 0) (NoInterface (place_in w) 0) _
+    (late_if limit w n (w.interfaces == 0) (NoInterface (told_offset w) 0) _
     (λ _. packet_late limit w n order (number_at order 4 x 4) 12 (simple_captured w.snapshot (number_at order 4 x 8)) (number_at order 4 x 8) le (omega arith) (omega arith) (other_by w.packets limit few)))))
 
 passed_late : (limit : ℕ) (w : Walk) (n : ℕ) (order : Order) (total : ℕ) → n ≤ 8 → Late limit w n (passed_judged limit w order total)
 unfolding passed_judged
 passed_late limit w n order total le =
     late_if limit w n (w.others == limit) TooMany _
-    (λ few. late_if limit w n (not (is_length 12 total)) (BadBlock (place_in w) total) (Known (plan_of order total Passed))
+    (λ few. late_if limit w n (not (is_length 12 total)) (BadBlock (told_offset w) total) (Known (plan_of order total Passed))
     (λ e.
     let long = long_by 12 total e in
     (le, record { long = omega arith; room = omega (arith, long); small = omega arith; near = omega arith; few = other_by w.others limit few })))
@@ -169,10 +169,10 @@ goes_need : (limit : ℕ) (w : Walk) (n : ℕ) (x y : List ℕ) (j k : Judged) �
 goes_need limit w n x y j k late f = need_by limit w n x y (nat_lt (length x) n) j k refl late f
 
 section_by_goes : (limit : ℕ) (w : Walk) (x y : List ℕ) (order : Order) (t : ℕ) → w.others ≢ limit
-    → Goes limit w (if not (is_length 28 t) then Refused (BadBlock (place_in w) t) else need 16 x (version_judged order t (number_at order 2 x 12) (number_at order 2 x 14)))
-    (if not (is_length 28 t) then Refused (BadBlock (place_in w) t) else need 16 (x ++ y) (version_judged order t (number_at order 2 (x ++ y) 12) (number_at order 2 (x ++ y) 14)))
+    → Goes limit w (if not (is_length 28 t) then Refused (BadBlock (told_offset w) t) else need 16 x (version_judged order t (number_at order 2 x 12) (number_at order 2 x 14)))
+    (if not (is_length 28 t) then Refused (BadBlock (told_offset w) t) else need 16 (x ++ y) (version_judged order t (number_at order 2 (x ++ y) 12) (number_at order 2 (x ++ y) 14)))
 section_by_goes limit w x y order t few =
-    goes_if limit w (not (is_length 28 t)) (BadBlock (place_in w) t) _ _
+    goes_if limit w (not (is_length 28 t)) (BadBlock (told_offset w) t) _ _
     (λ e. goes_need limit w 16 x y _ _ (version_late limit w 16 order t (number_at order 2 (x ++ y) 12) (number_at order 2 (x ++ y) 14) (omega arith) (long_by 28 t e) few)
     (λ long. goes_same limit w _ _
     (ap (λ (m : ℕ). version_judged order t m (number_at order 2 (x ++ y) 14)) (number_at_append order 2 x y 12 (omega (arith, long)))
@@ -183,7 +183,7 @@ unfolding section_in
 section_in_goes limit w x y None long few = ap (λ (m : ℕ). Refused (BadOrder m)) (number_at_append Big 4 x y 8 (omega (arith, long)))
 section_in_goes limit w x y (Some order) long few =
     subst (λ (t : ℕ). Goes limit w (section_in w x (Some order))
-    (if not (is_length 28 t) then Refused (BadBlock (place_in w) t) else need 16 (x ++ y) (version_judged order t (number_at order 2 (x ++ y) 12) (number_at order 2 (x ++ y) 14))))
+    (if not (is_length 28 t) then Refused (BadBlock (told_offset w) t) else need 16 (x ++ y) (version_judged order t (number_at order 2 (x ++ y) 12) (number_at order 2 (x ++ y) 14))))
     (sym (number_at_append order 4 x y 4 (omega (arith, long))))
     (section_by_goes limit w x y order (number_at order 4 x 4) few)
 
@@ -197,10 +197,10 @@ section_goes limit w x y =
     (section_in_goes limit w x y (section_order (number_at Big 4 x 8)) long (other_by w.others limit e))))
 
 interface_by_goes : (limit : ℕ) (w : Walk) (x y : List ℕ) (order : Order) (t : ℕ) → w.others ≢ limit
-    → Goes limit w (if not (is_length 20 t) then Refused (BadBlock (place_in w) t) else need 16 x (link_judged order t (number_at order 2 x 8) (number_at order 4 x 12)))
-    (if not (is_length 20 t) then Refused (BadBlock (place_in w) t) else need 16 (x ++ y) (link_judged order t (number_at order 2 (x ++ y) 8) (number_at order 4 (x ++ y) 12)))
+    → Goes limit w (if not (is_length 20 t) then Refused (BadBlock (told_offset w) t) else need 16 x (link_judged order t (number_at order 2 x 8) (number_at order 4 x 12)))
+    (if not (is_length 20 t) then Refused (BadBlock (told_offset w) t) else need 16 (x ++ y) (link_judged order t (number_at order 2 (x ++ y) 8) (number_at order 4 (x ++ y) 12)))
 interface_by_goes limit w x y order t few =
-    goes_if limit w (not (is_length 20 t)) (BadBlock (place_in w) t) _ _
+    goes_if limit w (not (is_length 20 t)) (BadBlock (told_offset w) t) _ _
     (λ e. goes_need limit w 16 x y _ _ (link_late limit w 16 order t (number_at order 2 (x ++ y) 8) (number_at order 4 (x ++ y) 12) (omega arith) (long_by 20 t e) few)
     (λ long. goes_same limit w _ _
     (ap (λ (m : ℕ). link_judged order t m (number_at order 4 (x ++ y) 12)) (number_at_append order 2 x y 8 (omega (arith, long)))
@@ -211,22 +211,22 @@ unfolding interface_judged
 interface_goes limit w x y order long =
     goes_if limit w (w.others == limit) TooMany _ _
     (λ e. subst (λ (t : ℕ). Goes limit w
-    (if not (is_length 20 (number_at order 4 x 4)) then Refused (BadBlock (place_in w) (number_at order 4 x 4)) else need 16 x (link_judged order (number_at order 4 x 4) (number_at order 2 x 8) (number_at order 4 x 12)))
-    (if not (is_length 20 t) then Refused (BadBlock (place_in w) t) else need 16 (x ++ y) (link_judged order t (number_at order 2 (x ++ y) 8) (number_at order 4 (x ++ y) 12))))
+    (if not (is_length 20 (number_at order 4 x 4)) then Refused (BadBlock (told_offset w) (number_at order 4 x 4)) else need 16 x (link_judged order (number_at order 4 x 4) (number_at order 2 x 8) (number_at order 4 x 12)))
+    (if not (is_length 20 t) then Refused (BadBlock (told_offset w) t) else need 16 (x ++ y) (link_judged order t (number_at order 2 (x ++ y) 8) (number_at order 4 (x ++ y) 12))))
     (sym (number_at_append order 4 x y 4 (omega (arith, long))))
     (interface_by_goes limit w x y order (number_at order 4 x 4) (other_by w.others limit e)))
 
 numbered_late : (limit : ℕ) (w : Walk) (n : ℕ) (order : Order) (total number captured original : ℕ) → n ≤ 28 → w.packets ≢ limit → Late limit w n (numbered_judged w order total number captured original)
 unfolding numbered_judged
 numbered_late limit w n order total number captured original le few =
-    late_if limit w n (nat_le w.interfaces number) (NoInterface (place_in w) number) _
+    late_if limit w n (nat_le w.interfaces number) (NoInterface (told_offset w) number) _
     (λ _. packet_late limit w n order total 28 captured original le (omega arith) (omega arith) few)
 
 enhanced_by_goes : (limit : ℕ) (w : Walk) (x y : List ℕ) (order : Order) (t : ℕ) → w.packets ≢ limit
-    → Goes limit w (if not (is_length 32 t) then Refused (BadBlock (place_in w) t) else need 28 x (numbered_judged w order t (number_at order 4 x 8) (number_at order 4 x 20) (number_at order 4 x 24)))
-    (if not (is_length 32 t) then Refused (BadBlock (place_in w) t) else need 28 (x ++ y) (numbered_judged w order t (number_at order 4 (x ++ y) 8) (number_at order 4 (x ++ y) 20) (number_at order 4 (x ++ y) 24)))
+    → Goes limit w (if not (is_length 32 t) then Refused (BadBlock (told_offset w) t) else need 28 x (numbered_judged w order t (number_at order 4 x 8) (number_at order 4 x 20) (number_at order 4 x 24)))
+    (if not (is_length 32 t) then Refused (BadBlock (told_offset w) t) else need 28 (x ++ y) (numbered_judged w order t (number_at order 4 (x ++ y) 8) (number_at order 4 (x ++ y) 20) (number_at order 4 (x ++ y) 24)))
 enhanced_by_goes limit w x y order t few =
-    goes_if limit w (not (is_length 32 t)) (BadBlock (place_in w) t) _ _
+    goes_if limit w (not (is_length 32 t)) (BadBlock (told_offset w) t) _ _
     (λ e. goes_need limit w 28 x y _ _
     (numbered_late limit w 28 order t (number_at order 4 (x ++ y) 8) (number_at order 4 (x ++ y) 20) (number_at order 4 (x ++ y) 24) (omega arith) few)
     (λ long. goes_same limit w _ _
@@ -239,22 +239,22 @@ unfolding enhanced_judged
 enhanced_goes limit w x y order long =
     goes_if limit w (w.packets == limit) TooMany _ _
     (λ e. subst (λ (t : ℕ). Goes limit w
-    (if not (is_length 32 (number_at order 4 x 4)) then Refused (BadBlock (place_in w) (number_at order 4 x 4)) else need 28 x (numbered_judged w order (number_at order 4 x 4) (number_at order 4 x 8) (number_at order 4 x 20) (number_at order 4 x 24)))
-    (if not (is_length 32 t) then Refused (BadBlock (place_in w) t) else need 28 (x ++ y) (numbered_judged w order t (number_at order 4 (x ++ y) 8) (number_at order 4 (x ++ y) 20) (number_at order 4 (x ++ y) 24))))
+    (if not (is_length 32 (number_at order 4 x 4)) then Refused (BadBlock (told_offset w) (number_at order 4 x 4)) else need 28 x (numbered_judged w order (number_at order 4 x 4) (number_at order 4 x 8) (number_at order 4 x 20) (number_at order 4 x 24)))
+    (if not (is_length 32 t) then Refused (BadBlock (told_offset w) t) else need 28 (x ++ y) (numbered_judged w order t (number_at order 4 (x ++ y) 8) (number_at order 4 (x ++ y) 20) (number_at order 4 (x ++ y) 24))))
     (sym (number_at_append order 4 x y 4 (omega (arith, long))))
     (enhanced_by_goes limit w x y order (number_at order 4 x 4) (other_by w.packets limit e)))
 
 simple_in_late : (limit : ℕ) (w : Walk) (n : ℕ) (order : Order) (total original : ℕ) → n ≤ 12 → w.packets ≢ limit → Late limit w n (simple_in w order total original)
 unfolding simple_in
 simple_in_late limit w n order total original le few =
-    late_if limit w n (w.interfaces == 0) (NoInterface (place_in w) 0) _
+    late_if limit w n (w.interfaces == 0) (NoInterface (told_offset w) 0) _
     (λ _. packet_late limit w n order total 12 (simple_captured w.snapshot original) original le (omega arith) (omega arith) few)
 
 simple_by_goes : (limit : ℕ) (w : Walk) (x y : List ℕ) (order : Order) (t : ℕ) → w.packets ≢ limit
-    → Goes limit w (if not (is_length 16 t) then Refused (BadBlock (place_in w) t) else need 12 x (simple_in w order t (number_at order 4 x 8)))
-    (if not (is_length 16 t) then Refused (BadBlock (place_in w) t) else need 12 (x ++ y) (simple_in w order t (number_at order 4 (x ++ y) 8)))
+    → Goes limit w (if not (is_length 16 t) then Refused (BadBlock (told_offset w) t) else need 12 x (simple_in w order t (number_at order 4 x 8)))
+    (if not (is_length 16 t) then Refused (BadBlock (told_offset w) t) else need 12 (x ++ y) (simple_in w order t (number_at order 4 (x ++ y) 8)))
 simple_by_goes limit w x y order t few =
-    goes_if limit w (not (is_length 16 t)) (BadBlock (place_in w) t) _ _
+    goes_if limit w (not (is_length 16 t)) (BadBlock (told_offset w) t) _ _
     (λ e. goes_need limit w 12 x y _ _ (simple_in_late limit w 12 order t (number_at order 4 (x ++ y) 8) (omega arith) few)
     (λ long. goes_same limit w _ _ (ap (λ (m : ℕ). simple_in w order t m) (number_at_append order 4 x y 8 (omega (arith, long))))))
 
@@ -263,8 +263,8 @@ unfolding simple_judged
 simple_goes limit w x y order long =
     goes_if limit w (w.packets == limit) TooMany _ _
     (λ e. subst (λ (t : ℕ). Goes limit w
-    (if not (is_length 16 (number_at order 4 x 4)) then Refused (BadBlock (place_in w) (number_at order 4 x 4)) else need 12 x (simple_in w order (number_at order 4 x 4) (number_at order 4 x 8)))
-    (if not (is_length 16 t) then Refused (BadBlock (place_in w) t) else need 12 (x ++ y) (simple_in w order t (number_at order 4 (x ++ y) 8))))
+    (if not (is_length 16 (number_at order 4 x 4)) then Refused (BadBlock (told_offset w) (number_at order 4 x 4)) else need 12 x (simple_in w order (number_at order 4 x 4) (number_at order 4 x 8)))
+    (if not (is_length 16 t) then Refused (BadBlock (told_offset w) t) else need 12 (x ++ y) (simple_in w order t (number_at order 4 (x ++ y) 8))))
     (sym (number_at_append order 4 x y 4 (omega (arith, long))))
     (simple_by_goes limit w x y order (number_at order 4 x 4) (other_by w.packets limit e)))
 
@@ -329,7 +329,7 @@ section_in_wants : (w : Walk) (x : List ℕ) (o : Option Order) → Wants (lengt
 unfolding section_in
 section_in_wants w x None = tt
 section_in_wants w x (Some order) =
-    wants_if (length x) (not (is_length 28 (number_at order 4 x 4))) (BadBlock (place_in w) (number_at order 4 x 4)) _
+    wants_if (length x) (not (is_length 28 (number_at order 4 x 4))) (BadBlock (told_offset w) (number_at order 4 x 4)) _
     (wants_need 16 x _ (version_wants (length x) order (number_at order 4 x 4) (number_at order 2 x 12) (number_at order 2 x 14)))
 
 section_wants : (limit : ℕ) (w : Walk) (x : List ℕ) → Wants (length x) (section_judged limit w x)
@@ -344,45 +344,45 @@ interface_wants : (limit : ℕ) (w : Walk) (order : Order) (x : List ℕ) → Wa
 unfolding interface_judged
 interface_wants limit w order x =
     wants_if (length x) (w.others == limit) TooMany _
-    (wants_if (length x) (not (is_length 20 (number_at order 4 x 4))) (BadBlock (place_in w) (number_at order 4 x 4)) _
+    (wants_if (length x) (not (is_length 20 (number_at order 4 x 4))) (BadBlock (told_offset w) (number_at order 4 x 4)) _
     (wants_need 16 x _ (link_wants (length x) order (number_at order 4 x 4) (number_at order 2 x 8) (number_at order 4 x 12))))
 
 packet_wants : (len : ℕ) (w : Walk) (order : Order) (total at captured original : ℕ) → Wants len (packet_judged w order total at captured original)
 unfolding packet_judged
 packet_wants len w order total at captured original =
-    wants_if len (nat_lt most_captured captured) (TooLong (place_in w) captured) _
-    (wants_if len (nat_lt total (at + 4 + padded captured)) (BadBlock (place_in w) total) _
+    wants_if len (nat_lt most_captured captured) (TooLong (told_offset w) captured) _
+    (wants_if len (nat_lt total (at + 4 + padded captured)) (BadBlock (told_offset w) total) _
     (wants_known len (plan_of order total (Packet at captured original))))
 
 numbered_wants : (len : ℕ) (w : Walk) (order : Order) (total number captured original : ℕ) → Wants len (numbered_judged w order total number captured original)
 unfolding numbered_judged
 numbered_wants len w order total number captured original =
-    wants_if len (nat_le w.interfaces number) (NoInterface (place_in w) number) _ (packet_wants len w order total 28 captured original)
+    wants_if len (nat_le w.interfaces number) (NoInterface (told_offset w) number) _ (packet_wants len w order total 28 captured original)
 
 enhanced_wants : (limit : ℕ) (w : Walk) (order : Order) (x : List ℕ) → Wants (length x) (enhanced_judged limit w order x)
 unfolding enhanced_judged
 enhanced_wants limit w order x =
     wants_if (length x) (w.packets == limit) TooMany _
-    (wants_if (length x) (not (is_length 32 (number_at order 4 x 4))) (BadBlock (place_in w) (number_at order 4 x 4)) _
+    (wants_if (length x) (not (is_length 32 (number_at order 4 x 4))) (BadBlock (told_offset w) (number_at order 4 x 4)) _
     (wants_need 28 x _ (numbered_wants (length x) w order (number_at order 4 x 4) (number_at order 4 x 8) (number_at order 4 x 20) (number_at order 4 x 24))))
 
 simple_in_wants : (len : ℕ) (w : Walk) (order : Order) (total original : ℕ) → Wants len (simple_in w order total original)
 unfolding simple_in
 simple_in_wants len w order total original =
-    wants_if len (w.interfaces == 0) (NoInterface (place_in w) 0) _ (packet_wants len w order total 12 (simple_captured w.snapshot original) original)
+    wants_if len (w.interfaces == 0) (NoInterface (told_offset w) 0) _ (packet_wants len w order total 12 (simple_captured w.snapshot original) original)
 
 simple_wants : (limit : ℕ) (w : Walk) (order : Order) (x : List ℕ) → Wants (length x) (simple_judged limit w order x)
 unfolding simple_judged
 simple_wants limit w order x =
     wants_if (length x) (w.packets == limit) TooMany _
-    (wants_if (length x) (not (is_length 16 (number_at order 4 x 4))) (BadBlock (place_in w) (number_at order 4 x 4)) _
+    (wants_if (length x) (not (is_length 16 (number_at order 4 x 4))) (BadBlock (told_offset w) (number_at order 4 x 4)) _
     (wants_need 12 x _ (simple_in_wants (length x) w order (number_at order 4 x 4) (number_at order 4 x 8))))
 
 passed_wants : (limit : ℕ) (w : Walk) (order : Order) (len total : ℕ) → Wants len (passed_judged limit w order total)
 unfolding passed_judged
 passed_wants limit w order len total =
     wants_if len (w.others == limit) TooMany _
-    (wants_if len (not (is_length 12 total)) (BadBlock (place_in w) total) _ (wants_known len (plan_of order total Passed)))
+    (wants_if len (not (is_length 12 total)) (BadBlock (told_offset w) total) _ (wants_known len (plan_of order total Passed)))
 
 block_wants : (limit : ℕ) (w : Walk) (order : Order) (x : List ℕ) (type : ℕ) → Wants (length x) (block_judged limit w order x type)
 unfolding block_judged

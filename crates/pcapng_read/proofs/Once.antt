@@ -3,7 +3,7 @@ use Rattle.std.proofs.Common.{◌≡◌, ℕ, List, [], ◌∷◌, ◌++◌, len
 use Rattle.std.specs.List.{flat_map}
 use Rattle.std.proofs.lemmas.List.{take_at, drop_at}
 use Rattle.pcap_read.specs.Records.{Framed}
-use Rattle.pcapng_read.specs.Blocks.{start, judged, behind, block_refusal}
+use Rattle.pcapng_read.specs.Blocks.{start, judged, walk_past, block_refusal}
 use Rattle.pcapng_read.specs.Capture.{Block, text, framed, IsBlock, AreBlocks, walk_behind, Cuts, IsNgCapture, RefusesNext, NgOutcome, NgWhole, NgRefused, NgCaptureOf}
 use Rattle.pcapng_read.proofs.Blocks.{Stops, known_stays, part_stops, refusal_stops, part_fine}
 use Rattle.pcapng_read.specs.declared.bad.NgBad.{NgBad}
@@ -42,13 +42,13 @@ cut_once limit w [] (c ∷ cs) x y ab ac sx sy e = absurd (sx c (flat_map text c
 cut_once limit w (b ∷ bs) [] x y ab ac sx sy e = absurd (sy b (flat_map text bs ++ x) ab.0 (sym e ∙ append_assoc b.bytes (flat_map text bs) x))
 cut_once limit w (b ∷ bs) (c ∷ cs) x y ab ac sx sy e =
     let same = firsts_same limit w b c bs cs x y ab.0 ac.0 e in
-    let here = ap (λ (t : Block). behind w t.plan) same.0 in
-    let others = cut_once limit (behind w b.plan) bs cs x y ab.1
+    let here = ap (λ (t : Block). walk_past w t.plan) same.0 in
+    let others = cut_once limit (walk_past w b.plan) bs cs x y ab.1
     (subst (λ (v : Walk). AreBlocks limit v cs) (sym here) ac.1) sx
     (subst (λ (v : Walk). Stops limit (walk_behind v cs) y) (sym here) sy) same.1 in
     (ap (λ (t : Block). t ∷ bs) same.0 ∙ ap (λ (t : List Block). c ∷ t) others.0, others.1)
 
--- how far behind blocks that are all whole
+-- how far walk_past blocks that are all whole
 pub record Cut (limit : ℕ) (bytes : List ℕ) (blocks : List Block) (rest : List ℕ) : Type 0 where
   pub parts : bytes ≡ flat_map text blocks ++ rest
   pub each : AreBlocks limit start blocks
@@ -80,7 +80,7 @@ cuts_fine limit bytes bs x gs bad cut r =
 pub capture_fine : (limit : ℕ) (bytes : List ℕ) (fs gs : List Framed) (x : List ℕ) (bad : NgBad) → IsNgCapture limit bytes fs x → RefusesNext limit bytes gs bad → ⊥
 capture_fine limit bytes fs gs x bad a r = cuts_fine limit bytes a.blocks x gs bad a.cut r
 
--- a list of bytes has one refusal at most, behind one list of packets
+-- a list of bytes has one refusal at most, walk_past one list of packets
 pub one_refusal : (limit : ℕ) (bytes : List ℕ) (fs gs : List Framed) (p q : NgBad) → RefusesNext limit bytes fs p → RefusesNext limit bytes gs q → (fs ≡ gs) × (p ≡ q)
 one_refusal limit bytes fs gs p q a b =
     let same = same_cut limit bytes a.blocks b.blocks a.rest b.rest (cut_refused limit bytes fs p a) (cut_refused limit bytes gs q b) in

@@ -5,9 +5,9 @@ use Rattle.std.proofs.lemmas.List.{append-nil, take-append-drop, nil_from_length
 use Rattle.pcap_read.specs.Header.{number_at}
 use Rattle.pcap_read.specs.Records.{Framed}
 use Rattle.pcap_read.proofs.Numbers.{number_at_append}
-use Rattle.pcapng_read.specs.Blocks.{start, judged, judged_in, behind, behind_by, keep_of, keep_in, place_in, block_refusal, refusal_by}
+use Rattle.pcapng_read.specs.Blocks.{start, judged, judged_in, walk_past, behind_by, keep_of, keep_in, told_offset, block_refusal, refusal_by}
 use Rattle.pcapng_read.specs.Plans.{Late}
-use Rattle.pcapng_read.specs.Capture.{Block, text, framed, frame_in, IsBlock, walk_behind, IsPart, Cuts, RefusesNext}
+use Rattle.pcapng_read.specs.Capture.{Block, text, framed, frame_in, IsBlock, walk_behind, IsPartOfBlock, Cuts, RefusesNext}
 use Rattle.pcapng_read.specs.View.{NgReaderView, Stands, kept_in, kept_of}
 use Rattle.pcapng_read.proofs.Heads.{Goes, Wants, judged_goes, judged_wants}
 use Rattle.pcapng_read.proofs.Blocks.{blocks_push, walk_push, flat_push, known_stays, known_sound, refusal_stays}
@@ -24,14 +24,14 @@ use Rattle.pcapng_read.specs.declared.block.Judged.TheVariants.{Waits, Refused, 
 
 -- bytes of the unfinished block
 pub stands_part : (old new : NgReaderView) (b x : List ℕ) (fs : List Framed) (h : Stands old b fs) → new.limit ≡ old.limit → new.walk ≡ old.walk
-    → new.judged ≡ judged old.limit old.walk (h.rest ++ x) → IsPart (h.rest ++ x) new.judged → new.seen ≡ old.seen + length x → new.held ≡ kept_of (h.rest ++ x) new.judged
+    → new.judged ≡ judged old.limit old.walk (h.rest ++ x) → IsPartOfBlock (h.rest ++ x) new.judged → new.seen ≡ old.seen + length x → new.held ≡ kept_of (h.rest ++ x) new.judged
     → Stands new (b ++ x) fs
 stands_part old new b x fs h limit walk judged_is part seen held =
     let here : new.judged ≡ judged old.limit (walk_behind start h.blocks) (h.rest ++ x) = judged_is ∙ ap (λ (w : Walk). judged old.limit w (h.rest ++ x)) h.walk in
     let cut : Cuts old.limit (b ++ x) h.blocks (h.rest ++ x) = record {
       parts = ap (λ (t : List ℕ). t ++ x) h.cut.parts ∙ append_assoc (flat_map text h.blocks) h.rest x;
       each = h.cut.each;
-      partial = subst (λ (j : Judged). IsPart (h.rest ++ x) j) here part;
+      partial = subst (λ (j : Judged). IsPartOfBlock (h.rest ++ x) j) here part;
     } in
     record {
       blocks = h.blocks;
@@ -50,13 +50,13 @@ held_all view b fs n h waits = h.held ∙ ap (kept_of h.rest) waits
 
 -- first bytes of a block
 pub takes_head : (old new : NgReaderView) (b x : List ℕ) (fs : List Framed) (n : ℕ) → old.judged ≡ Waits n → new.limit ≡ old.limit → new.walk ≡ old.walk
-    → new.judged ≡ judged old.limit old.walk (old.held ++ x) → IsPart (old.held ++ x) new.judged → new.seen ≡ old.seen + length x
+    → new.judged ≡ judged old.limit old.walk (old.held ++ x) → IsPartOfBlock (old.held ++ x) new.judged → new.seen ≡ old.seen + length x
     → new.held ≡ old.held ++ x → kept_of (old.held ++ x) new.judged ≡ old.held ++ x → Stands old b fs → Stands new (b ++ x) fs
 takes_head old new b x fs n waits limit walk judged_is part seen held kept h =
     let all = held_all old b fs n h waits in
     stands_part old new b x fs h limit walk
     (judged_is ∙ ap (λ (t : List ℕ). judged old.limit old.walk (t ++ x)) all)
-    (subst (λ (t : List ℕ). IsPart (t ++ x) new.judged) all part) seen
+    (subst (λ (t : List ℕ). IsPartOfBlock (t ++ x) new.judged) all part) seen
     (subst (λ (t : List ℕ). new.held ≡ kept_of (t ++ x) new.judged) all (held ∙ sym kept))
 
 -- the first bytes of a block are refused
@@ -96,7 +96,7 @@ pub takes_body : (old new : NgReaderView) (b x : List ℕ) (fs : List Framed) (p
     → Stands old b fs → Stands new (b ++ x) fs
 takes_body old new b x fs plan known limit walk still seen short keeps h =
     stands_part old new b x fs h limit walk (still ∙ sym (known_more old b x fs plan h known))
-    (subst (λ (j : Judged). IsPart (h.rest ++ x) j) (sym still) (omega (arith, short, seen, h.seen, length-append h.rest x))) seen
+    (subst (λ (j : Judged). IsPartOfBlock (h.rest ++ x) j) (sym still) (omega (arith, short, seen, h.seen, length-append h.rest x))) seen
     (keeps h.rest (sym h.seen) (kept_known old b fs plan h known) ∙ ap (kept_of (h.rest ++ x)) (sym still))
 
 -- nothing of the next block has come
@@ -123,7 +123,7 @@ frame_front x n (Packet at captured original) le long =
 frame_front x n Passed le long = refl
 
 -- a block became whole
-pub stands_whole : (old new : NgReaderView) (b x : List ℕ) (fs : List Framed) (plan : Plan) (h : Stands old b fs) → new.limit ≡ old.limit → new.walk ≡ behind old.walk plan
+pub stands_whole : (old new : NgReaderView) (b x : List ℕ) (fs : List Framed) (plan : Plan) (h : Stands old b fs) → new.limit ≡ old.limit → new.walk ≡ walk_past old.walk plan
     → new.judged ≡ Waits 8 → new.seen ≡ 0 → new.held ≡ [] → judged old.limit old.walk (h.rest ++ x) ≡ Known plan → length (h.rest ++ x) ≡ plan.total
     → number_at plan.order 4 (h.rest ++ x) (plan.total - 4) ≡ plan.total → Stands new (b ++ x) (fs ++ frame_in (h.rest ++ x) plan.body)
 stands_whole old new b x fs plan h limit walk waits seen none known whole ends =
@@ -133,12 +133,12 @@ stands_whole old new b x fs plan h limit walk waits seen none known whole ends =
       whole = whole;
       ends = ends;
     } in
-    let behind_is : new.walk ≡ walk_behind start (h.blocks ++ k ∷ []) = walk ∙ ap (λ (w : Walk). behind w plan) h.walk ∙ sym (walk_push start h.blocks k) in
+    let behind_is : new.walk ≡ walk_behind start (h.blocks ++ k ∷ []) = walk ∙ ap (λ (w : Walk). walk_past w plan) h.walk ∙ sym (walk_push start h.blocks k) in
     let fresh : judged old.limit new.walk [] ≡ Waits 8 = ap (λ (w : Walk). judged old.limit w []) walk ∙ ready old.limit old.walk plan.order plan.total plan.body in
     let cut : Cuts old.limit (b ++ x) (h.blocks ++ k ∷ []) [] = record {
       parts = ap (λ (t : List ℕ). t ++ x) h.cut.parts ∙ append_assoc (flat_map text h.blocks) h.rest x ∙ sym (flat_push text h.blocks k) ∙ sym (append-nil (flat_map text (h.blocks ++ k ∷ [])));
       each = blocks_push old.limit start h.blocks k h.cut.each is;
-      partial = subst (λ (w : Walk). IsPart [] (judged old.limit w [])) behind_is (subst (λ (j : Judged). IsPart [] j) (sym fresh) tt);
+      partial = subst (λ (w : Walk). IsPartOfBlock [] (judged old.limit w [])) behind_is (subst (λ (j : Judged). IsPartOfBlock [] j) (sym fresh) tt);
     } in
     record {
       blocks = h.blocks ++ k ∷ [];
@@ -152,7 +152,7 @@ stands_whole old new b x fs plan h limit walk waits seen none known whole ends =
     }
 
 -- and its bytes came in parts
-pub takes_whole : (old new : NgReaderView) (b x held : List ℕ) (fs : List Framed) (plan : Plan) → old.judged ≡ Known plan → new.limit ≡ old.limit → new.walk ≡ behind old.walk plan
+pub takes_whole : (old new : NgReaderView) (b x held : List ℕ) (fs : List Framed) (plan : Plan) → old.judged ≡ Known plan → new.limit ≡ old.limit → new.walk ≡ walk_past old.walk plan
     → new.judged ≡ Waits 8 → new.seen ≡ 0 → new.held ≡ [] → old.seen + length x ≡ plan.total → Keeps plan old.seen old.held held x
     → number_at plan.order 4 held (keep_of plan) ≡ plan.total → Stands old b fs → Stands new (b ++ x) (fs ++ frame_in held plan.body)
 takes_whole old new b x held fs plan known limit walk waits seen none whole keeps ends h =
@@ -170,14 +170,14 @@ takes_whole old new b x held fs plan known limit walk waits seen none whole keep
 
 -- a packet's block
 pub takes_packet : (old new : NgReaderView) (b x held : List ℕ) (fs gs : List Framed) (plan : Plan) → frame_in held plan.body ≡ gs → old.judged ≡ Known plan → new.limit ≡ old.limit
-    → new.walk ≡ behind old.walk plan → new.judged ≡ Waits 8 → new.seen ≡ 0 → new.held ≡ [] → old.seen + length x ≡ plan.total → Keeps plan old.seen old.held held x
+    → new.walk ≡ walk_past old.walk plan → new.judged ≡ Waits 8 → new.seen ≡ 0 → new.held ≡ [] → old.seen + length x ≡ plan.total → Keeps plan old.seen old.held held x
     → number_at plan.order 4 held (keep_of plan) ≡ plan.total → Stands old b fs → Stands new (b ++ x) (fs ++ gs)
 takes_packet old new b x held fs gs plan frames known limit walk waits seen none whole keeps ends h =
     subst (λ (t : List Framed). Stands new (b ++ x) (fs ++ t)) frames (takes_whole old new b x held fs plan known limit walk waits seen none whole keeps ends h)
 
 -- another block
 pub takes_other : (old new : NgReaderView) (b x held : List ℕ) (fs : List Framed) (plan : Plan) → frame_in held plan.body ≡ [] → old.judged ≡ Known plan → new.limit ≡ old.limit
-    → new.walk ≡ behind old.walk plan → new.judged ≡ Waits 8 → new.seen ≡ 0 → new.held ≡ [] → old.seen + length x ≡ plan.total → Keeps plan old.seen old.held held x
+    → new.walk ≡ walk_past old.walk plan → new.judged ≡ Waits 8 → new.seen ≡ 0 → new.held ≡ [] → old.seen + length x ≡ plan.total → Keeps plan old.seen old.held held x
     → number_at plan.order 4 held (keep_of plan) ≡ plan.total → Stands old b fs → Stands new (b ++ x) fs
 takes_other old new b x held fs plan frames known limit walk waits seen none whole keeps ends h =
     subst (λ (t : List Framed). Stands new (b ++ x) t) (append-nil fs)
@@ -188,7 +188,7 @@ other_number a b ne = grind arith
 
 -- a block whose end isn't its total length
 pub refuses_end : (old : NgReaderView) (b x more held : List ℕ) (fs : List Framed) (plan : Plan) (bad : NgBad) → old.judged ≡ Known plan → old.seen + length x ≡ plan.total
-    → Keeps plan old.seen old.held held x → number_at plan.order 4 held (keep_of plan) ≢ plan.total → bad ≡ BadBlock (place_in old.walk) plan.total
+    → Keeps plan old.seen old.held held x → number_at plan.order 4 held (keep_of plan) ≢ plan.total → bad ≡ BadBlock (told_offset old.walk) plan.total
     → Stands old b fs → RefusesNext old.limit (b ++ (x ++ more)) fs bad
 refuses_end old b x more held fs plan bad known whole keeps wrong bad_is h =
     let y = h.rest ++ x in
@@ -216,7 +216,7 @@ pub front_known : (limit : ℕ) (w : Walk) (x y : List ℕ) (plan : Plan) → ju
 front_known limit w x y plan known long = front_known_by limit w x y (judged limit w x) plan (judged_goes limit w x y) (judged_wants limit w x) known long
 
 -- a packet's block that stands whole at the front of a piece
-pub takes_front : (old new : NgReaderView) (b piece : List ℕ) (fs : List Framed) (plan : Plan) → old.seen ≡ 0 → new.limit ≡ old.limit → new.walk ≡ behind old.walk plan
+pub takes_front : (old new : NgReaderView) (b piece : List ℕ) (fs : List Framed) (plan : Plan) → old.seen ≡ 0 → new.limit ≡ old.limit → new.walk ≡ walk_past old.walk plan
     → new.judged ≡ Waits 8 → new.seen ≡ 0 → new.held ≡ [] → judged old.limit old.walk piece ≡ Known plan → plan.total ≤ length piece
     → number_at plan.order 4 piece (plan.total - 4) ≡ plan.total → Stands old b fs → Stands new (b ++ take plan.total piece) (fs ++ frame_in piece plan.body)
 takes_front old new b piece fs plan zero limit walk waits seen none known whole ends h =
@@ -239,7 +239,7 @@ takes_front old new b piece fs plan zero limit walk waits seen none known whole 
 
 -- and its packet
 pub lends_front : (old new : NgReaderView) (b piece : List ℕ) (fs gs : List Framed) (plan : Plan) → frame_in piece plan.body ≡ gs → old.seen ≡ 0 → new.limit ≡ old.limit
-    → new.walk ≡ behind old.walk plan → new.judged ≡ Waits 8 → new.seen ≡ 0 → new.held ≡ [] → judged old.limit old.walk piece ≡ Known plan → plan.total ≤ length piece
+    → new.walk ≡ walk_past old.walk plan → new.judged ≡ Waits 8 → new.seen ≡ 0 → new.held ≡ [] → judged old.limit old.walk piece ≡ Known plan → plan.total ≤ length piece
     → number_at plan.order 4 piece (plan.total - 4) ≡ plan.total → Stands old b fs → Stands new (b ++ take plan.total piece) (fs ++ gs)
 lends_front old new b piece fs gs plan frames zero limit walk waits seen none known whole ends h =
     subst (λ (t : List Framed). Stands new (b ++ take plan.total piece) (fs ++ t)) frames (takes_front old new b piece fs plan zero limit walk waits seen none known whole ends h)

@@ -22,7 +22,7 @@ start = record { order = None; interfaces = 0; snapshot = 0; packets = 0; others
 abbrev pub section_type : ℕ
 section_type = 0x0a0d0d0a
 
--- the order of a section's numbers, by the magic number behind its total length
+-- the order of a section's numbers, by the magic number walk_past its total length
 unfoldable pub section_order : ℕ → Option Order
 section_order magic = if magic == 0x4d3c2b1a then Some Little else if magic == 0x1a2b3c4d then Some Big else None
 
@@ -35,8 +35,8 @@ abbrev pub is_length : ℕ → ℕ → Bool
 is_length least total = nat_le least total && (total % 4 == 0)
 
 -- a block's offset in 64 bits, as refusals tell it
-abbrev pub place_in : Walk → ℕ
-place_in w = w.offset % 18446744073709551616
+abbrev pub told_offset : Walk → ℕ
+told_offset w = w.offset % 18446744073709551616
 
 -- a judgement that takes the block's first n bytes
 abbrev pub need : ℕ → List ℕ → Judged → Judged
@@ -54,7 +54,7 @@ version_judged order total major minor =
 unfoldable pub section_in : Walk → List ℕ → Option Order → Judged
 section_in w x None = Refused (BadOrder (number_at Big 4 x 8))
 section_in w x (Some order) =
-    if not (is_length 28 (number_at order 4 x 4)) then Refused (BadBlock (place_in w) (number_at order 4 x 4))
+    if not (is_length 28 (number_at order 4 x 4)) then Refused (BadBlock (told_offset w) (number_at order 4 x 4))
     else need 16 x (version_judged order (number_at order 4 x 4) (number_at order 2 x 12) (number_at order 2 x 14))
 
 -- a section's header, of which eight bytes stand
@@ -72,27 +72,27 @@ link_judged order total link snapshot =
 unfoldable pub interface_judged : ℕ → Walk → Order → List ℕ → Judged
 interface_judged limit w order x =
     if w.others == limit then Refused TooMany
-    else if not (is_length 20 (number_at order 4 x 4)) then Refused (BadBlock (place_in w) (number_at order 4 x 4))
+    else if not (is_length 20 (number_at order 4 x 4)) then Refused (BadBlock (told_offset w) (number_at order 4 x 4))
     else need 16 x (link_judged order (number_at order 4 x 4) (number_at order 2 x 8) (number_at order 4 x 12))
 
 -- a packet with so many captured bytes at the place
 unfoldable pub packet_judged : Walk → Order → ℕ → ℕ → ℕ → ℕ → Judged
 packet_judged w order total at captured original =
-    if nat_lt most_captured captured then Refused (TooLong (place_in w) captured)
-    else if nat_lt total (at + 4 + padded captured) then Refused (BadBlock (place_in w) total)
+    if nat_lt most_captured captured then Refused (TooLong (told_offset w) captured)
+    else if nat_lt total (at + 4 + padded captured) then Refused (BadBlock (told_offset w) total)
     else Known (plan_of order total (Packet at captured original))
 
 -- an enhanced packet, once its interface's number stands
 unfoldable pub numbered_judged : Walk → Order → ℕ → ℕ → ℕ → ℕ → Judged
 numbered_judged w order total number captured original =
-    if nat_le w.interfaces number then Refused (NoInterface (place_in w) number)
+    if nat_le w.interfaces number then Refused (NoInterface (told_offset w) number)
     else packet_judged w order total 28 captured original
 
 -- an enhanced packet, of which eight bytes stand
 unfoldable pub enhanced_judged : ℕ → Walk → Order → List ℕ → Judged
 enhanced_judged limit w order x =
     if w.packets == limit then Refused TooMany
-    else if not (is_length 32 (number_at order 4 x 4)) then Refused (BadBlock (place_in w) (number_at order 4 x 4))
+    else if not (is_length 32 (number_at order 4 x 4)) then Refused (BadBlock (told_offset w) (number_at order 4 x 4))
     else need 28 x (numbered_judged w order (number_at order 4 x 4) (number_at order 4 x 8) (number_at order 4 x 20)
     (number_at order 4 x 24))
 
@@ -103,24 +103,24 @@ simple_captured snapshot original = if snapshot == 0 then original else min snap
 -- a simple packet, once its original length stands
 unfoldable pub simple_in : Walk → Order → ℕ → ℕ → Judged
 simple_in w order total original =
-    if w.interfaces == 0 then Refused (NoInterface (place_in w) 0)
+    if w.interfaces == 0 then Refused (NoInterface (told_offset w) 0)
     else packet_judged w order total 12 (simple_captured w.snapshot original) original
 
 -- a simple packet, of which eight bytes stand
 unfoldable pub simple_judged : ℕ → Walk → Order → List ℕ → Judged
 simple_judged limit w order x =
     if w.packets == limit then Refused TooMany
-    else if not (is_length 16 (number_at order 4 x 4)) then Refused (BadBlock (place_in w) (number_at order 4 x 4))
+    else if not (is_length 16 (number_at order 4 x 4)) then Refused (BadBlock (told_offset w) (number_at order 4 x 4))
     else need 12 x (simple_in w order (number_at order 4 x 4) (number_at order 4 x 8))
 
 -- a block that is passed over
 unfoldable pub passed_judged : ℕ → Walk → Order → ℕ → Judged
 passed_judged limit w order total =
     if w.others == limit then Refused TooMany
-    else if not (is_length 12 total) then Refused (BadBlock (place_in w) total)
+    else if not (is_length 12 total) then Refused (BadBlock (told_offset w) total)
     else Known (plan_of order total Passed)
 
--- a block behind the first section's header, by its type
+-- a block walk_past the first section's header, by its type
 unfoldable pub block_judged : ℕ → Walk → Order → List ℕ → ℕ → Judged
 block_judged limit w order x type =
     if type == section_type then section_judged limit w x
@@ -152,7 +152,7 @@ keep_in Passed = 8
 abbrev pub keep_of : Plan → ℕ
 keep_of plan = keep_in plan.body
 
--- what stands behind a block: a section's header sets the order and drops the interfaces
+-- what stands walk_past a block: a section's header sets the order and drops the interfaces
 abbrev pub behind_by : Walk → Order → ℕ → Body → Walk
 behind_by w order total Section =
     record { order = Some order; interfaces = 0; snapshot = 0; packets = w.packets; others = w.others + 1; offset = w.offset + total }
@@ -181,8 +181,8 @@ behind_by w order total Passed = record {
   offset = w.offset + total;
 }
 
-abbrev pub behind : Walk → Plan → Walk
-behind w plan = behind_by w plan.order plan.total plan.body
+abbrev pub walk_past : Walk → Plan → Walk
+walk_past w plan = behind_by w plan.order plan.total plan.body
 
 -- what a block is refused for, with all of its bytes
 abbrev pub refusal_by : Walk → List ℕ → Judged → Option NgBad
@@ -191,7 +191,7 @@ refusal_by w x (Refused bad) = Some bad
 refusal_by w x (Known plan) =
     if nat_lt (length x) plan.total then None
     else if number_at plan.order 4 x (plan.total - 4) == plan.total then None
-    else Some (BadBlock (place_in w) plan.total)
+    else Some (BadBlock (told_offset w) plan.total)
 
 abbrev pub block_refusal : ℕ → Walk → List ℕ → Option NgBad
 block_refusal limit w x = refusal_by w x (judged limit w x)

@@ -3,7 +3,7 @@ use Rattle.std.specs.Prelude.{◌≡◌, ◌<◌, ◌⊎◌, ℕ, ◌-◌, List,
 use Rattle.std.specs.List.{flat_map}
 use Rattle.pcap_read.specs.Header.{number_at}
 use Rattle.pcap_read.specs.Records.{Framed}
-use Rattle.pcapng_read.specs.Blocks.{start, judged, behind, block_refusal}
+use Rattle.pcapng_read.specs.Blocks.{start, judged, walk_past, block_refusal}
 use Rattle.pcapng_read.specs.declared.bad.NgBad.{NgBad}
 use Rattle.pcapng_read.specs.declared.bad.NgBad.TheVariants.{ShortSection}
 use Rattle.pcapng_read.specs.declared.block.Walk.{Walk}
@@ -27,14 +27,14 @@ pub record IsBlock (limit : ℕ) (w : Walk) (b : Block) : Type 0 where
   pub whole : length b.bytes ≡ b.plan.total
   pub ends : number_at b.plan.order 4 b.bytes (b.plan.total - 4) ≡ b.plan.total
 
--- what stands behind blocks
+-- what stands walk_past blocks
 abbrev pub walk_behind : Walk → List Block → Walk
-walk_behind w blocks = fold (λ (v : Walk) (b : Block). behind v b.plan) w blocks
+walk_behind w blocks = fold (λ (v : Walk) (b : Block). walk_past v b.plan) w blocks
 
--- each is a block behind those before it
+-- each is a block walk_past those before it
 unfoldable pub AreBlocks : ℕ → Walk → List Block → Type 0
 AreBlocks limit w [] = Unit {0}
-AreBlocks limit w (b ∷ bs) = IsBlock limit w b × AreBlocks limit (behind w b.plan) bs
+AreBlocks limit w (b ∷ bs) = IsBlock limit w b × AreBlocks limit (walk_past w b.plan) bs
 
 -- the packet of a block, if it has one
 abbrev pub frame_in : List ℕ → Body → List Framed
@@ -47,16 +47,16 @@ abbrev pub framed : Block → List Framed
 framed b = frame_in b.bytes b.plan.body
 
 -- less than the block that it begins, and not refused
-abbrev pub IsPart : List ℕ → Judged → Type 0
-IsPart rest (Waits n) = Unit {0}
-IsPart rest (Refused bad) = ⊥
-IsPart rest (Known plan) = length rest < plan.total
+abbrev pub IsPartOfBlock : List ℕ → Judged → Type 0
+IsPartOfBlock rest (Waits n) = Unit {0}
+IsPartOfBlock rest (Refused bad) = ⊥
+IsPartOfBlock rest (Known plan) = length rest < plan.total
 
 -- the bytes are these blocks and less than the next one
 pub record Cuts (limit : ℕ) (bytes : List ℕ) (blocks : List Block) (rest : List ℕ) : Type 0 where
   pub parts : bytes ≡ flat_map text blocks ++ rest
   pub each : AreBlocks limit start blocks
-  pub partial : IsPart rest (judged limit (walk_behind start blocks) rest)
+  pub partial : IsPartOfBlock rest (judged limit (walk_behind start blocks) rest)
 
 -- the bytes are a capture of these packets, and a rest of the next block
 pub record IsNgCapture (limit : ℕ) (bytes : List ℕ) (frames : List Framed) (rest : List ℕ) : Type 0 where
@@ -65,7 +65,7 @@ pub record IsNgCapture (limit : ℕ) (bytes : List ℕ) (frames : List Framed) (
   pub cut : Cuts limit bytes blocks rest
   pub frames_are : frames ≡ flat_map framed blocks
 
--- this refusal stands behind these packets, and before the end of the next one
+-- this refusal stands walk_past these packets, and before the end of the next one
 pub record RefusesNext (limit : ℕ) (bytes : List ℕ) (frames : List Framed) (bad : NgBad) : Type 0 where
   pub blocks : List Block
   pub rest : List ℕ
@@ -78,7 +78,7 @@ pub record RefusesNext (limit : ℕ) (bytes : List ℕ) (frames : List Framed) (
 abbrev pub Refuses : ℕ → List ℕ → NgBad → Type 0
 Refuses limit bytes bad = (frames : List Framed) × RefusesNext limit bytes frames bad
 
--- what a whole input is: packets with the number of rest bytes behind the last block, or the one refusal
+-- what a whole input is: packets with the number of rest bytes walk_past the last block, or the one refusal
 pub data NgOutcome : Type 0 where
   NgWhole : List Framed → ℕ → NgOutcome
   NgRefused : NgBad → NgOutcome

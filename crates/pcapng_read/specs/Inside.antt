@@ -2,7 +2,7 @@
 use Rattle.std.specs.Prelude.{◌≡◌, ◌<◌, ◌≤◌, ℕ, ◌+◌, ◌-◌, List, [], take, drop, min, Option, Some, None, vec_len, vec_capacity, MatchOption}
 use Rattle.pcap_read.specs.Records.{Framed, most_captured}
 use Rattle.pcapng_read.specs.Blocks.{judged, keep_of}
-use Rattle.pcapng_read.specs.Plans.{IsCounted, IsSoundPlan}
+use Rattle.pcapng_read.specs.Plans.{HasRoomForBlock, IsSoundPlan}
 use Rattle.pcapng_read.specs.View.{NgReaderView, refused_at}
 use Rattle.pcapng_read.specs.declared.block.Body.{Body}
 use Rattle.pcapng_read.specs.declared.block.Body.TheVariants.{Section, Interface, Packet, Passed}
@@ -54,7 +54,7 @@ pub record IsLending (a : Inside) (d : Data) : Type 0 where
 
 pub record IsSound (a : Inside) : Type 0 where
   pub room : 32 + most_captured ≤ vec_capacity a.held
-  pub counted : IsCounted a.walk
+  pub counted : HasRoomForBlock a.walk
   pub packets : a.walk.packets ≤ a.limit
   pub others : a.walk.others ≤ a.limit
   pub within : MatchOption a.packet (IsInBlock a a.judged) (IsLending a)

@@ -39,7 +39,7 @@ pub record IsSoundPlan (limit : ℕ) (w : Walk) (plan : Plan) : Type 0 where
   pub few : count_in w plan.body ≢ limit
 
 -- the counts and the offset have room for one block more
-pub record IsCounted (w : Walk) : Type 0 where
+pub record HasRoomForBlock (w : Walk) : Type 0 where
   pub interfaces : w.interfaces ≤ w.others
   pub packets : w.packets < 4294967296
   pub others : w.others < 4294967296

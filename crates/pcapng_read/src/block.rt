@@ -1,6 +1,6 @@
 ghost use Rattle.std.specs.Prelude.{◌≡◌, ◌≢◌, ◌≤◌, ◌<◌, ◌+◌, ◌*◌, ◌%◌};
-ghost use Rattle.pcapng_read.specs.Blocks.{behind, keep_of, place_in};
-ghost use Rattle.pcapng_read.specs.Plans.{HasRoom, IsCounted, IsSoundPlan};
+ghost use Rattle.pcapng_read.specs.Blocks.{walk_past, keep_of, told_offset};
+ghost use Rattle.pcapng_read.specs.Plans.{HasRoom, HasRoomForBlock, IsSoundPlan};
 
 use crate::NgBad;
 use pcap_read::Order;
@@ -84,17 +84,17 @@ impl Plan {
 impl Walk {
     /// The block's offset, in 64 bits.
     pub fn place(&self) -> u64
-        ensures { result ≡ place_in self.now }
+        ensures { result ≡ told_offset self.now }
     {
         (self.offset % 18446744073709551616) as u64
     }
 
     /// What stands in front of the next block.
     pub fn behind(&self, plan: &Plan) -> Walk
-        requires counted { IsCounted self.now }
+        requires counted { HasRoomForBlock self.now }
         requires room { HasRoom self.now plan.now }
-        ensures behind { result ≡ behind self.now plan.now }
-        ensures counted { IsCounted result }
+        ensures walk_past { result ≡ walk_past self.now plan.now }
+        ensures counted { HasRoomForBlock result }
     {
         let offset = self.offset + u128::from(plan.total);
         let order = Some(plan.order);

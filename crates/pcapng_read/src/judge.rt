@@ -1,6 +1,6 @@
 ghost use Rattle.std.specs.Prelude.{◌≡◌, ◌≤◌, ◌<◌, ◌+◌, ℕ, length, Some, None};
 ghost use Rattle.pcap_read.specs.Header.{number_at};
-ghost use Rattle.pcapng_read.specs.Blocks.{block_judged, enhanced_judged, first_judged, interface_judged, is_length, judged, judged_in, link_judged, numbered_judged, packet_judged, padded, passed_judged, place_in, section_in, section_judged, section_order, simple_captured, simple_in, simple_judged, version_judged};
+ghost use Rattle.pcapng_read.specs.Blocks.{block_judged, enhanced_judged, first_judged, interface_judged, is_length, judged, judged_in, link_judged, numbered_judged, packet_judged, padded, passed_judged, told_offset, section_in, section_judged, section_order, simple_captured, simple_in, simple_judged, version_judged};
 ghost use Rattle.pcapng_read.specs.Plans.{Late, WantsMore};
 
 use crate::{Body, Judged, NgBad, Plan, Walk};
@@ -94,7 +94,7 @@ fn has_length(least: u32, total: u32) -> bool
 }
 
 fn bad_block(walk: &Walk, length: u32) -> Judged
-    ensures { result ≡ Judged.Refused (NgBad.BadBlock (place_in walk.now) length) }
+    ensures { result ≡ Judged.Refused (NgBad.BadBlock (told_offset walk.now) length) }
 {
     Judged::Refused {
         bad: NgBad::BadBlock {

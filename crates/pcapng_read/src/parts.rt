@@ -1,8 +1,8 @@
 ghost use Rattle.std.specs.Prelude.{◌≡◌, ◌≢◌, ◌≤◌, ◌<◌, ◌+◌, ◌-◌, ◌++◌, ℕ, List, min, length, take, IfOk, IfErr, OnOk, vec_len, vec_capacity};
 ghost use Rattle.pcap_read.specs.Header.{number_at};
 ghost use Rattle.pcap_read.specs.Records.{most_captured};
-ghost use Rattle.pcapng_read.specs.Blocks.{behind, keep_of, place_in};
-ghost use Rattle.pcapng_read.specs.Plans.{HasRoom, IsCounted};
+ghost use Rattle.pcapng_read.specs.Blocks.{walk_past, keep_of, told_offset};
+ghost use Rattle.pcapng_read.specs.Plans.{HasRoom, HasRoomForBlock};
 ghost use Rattle.pcapng_read.specs.Inside.{data_of};
 ghost use Rattle.pcapng_read.specs.View.{kept_in};
 
@@ -41,13 +41,13 @@ pub fn take_part(plan: &Plan, seen: u32, held: &mut Vec<u8>, piece: &[u8]) -> us
 /// What stands behind a block whose total length stands once more at its end.
 pub fn closed(walk: &Walk, plan: &Plan, bytes: &[u8], end: usize) -> Result<Walk, NgBad>
     requires end { end + 4 ≤ length bytes.now }
-    requires counted { IsCounted walk.now }
+    requires counted { HasRoomForBlock walk.now }
     requires room { HasRoom walk.now plan.now }
     ensures ends { OnOk result (number_at plan.now.order 4 bytes.now end ≡ plan.now.total) }
-    ensures walk { IfOk result (λ next. next ≡ behind walk.now plan.now) }
-    ensures counted { IfOk result (λ next. IsCounted next) }
+    ensures walk { IfOk result (λ next. next ≡ walk_past walk.now plan.now) }
+    ensures counted { IfOk result (λ next. HasRoomForBlock next) }
     ensures wrong { IfErr result (λ bad. number_at plan.now.order 4 bytes.now end ≢ plan.now.total) }
-    ensures bad { IfErr result (λ bad. bad ≡ NgBad.BadBlock (place_in walk.now) plan.now.total) }
+    ensures bad { IfErr result (λ bad. bad ≡ NgBad.BadBlock (told_offset walk.now) plan.now.total) }
 {
     if u32_at(plan.order, bytes, end) == plan.total {
         return Ok(walk.behind(plan));

@@ -14,7 +14,7 @@ use Rattle.push_history.specs.Journal.{asked_keys, keys_of}
 use Rattle.prefixes.specs.declared.network.Prefix.{Prefix}
 use Rattle.prefixes.specs.Networks.{prefix_key}
 use Rattle.prefix_stack.specs.Runs.{HaveAnswers, level_options, watched_at}
-use Rattle.prefix_report.specs.Reports.{FitsLine}
+use Rattle.prefix_report.specs.Reports.{HasFewShown}
 
 few_watched : (bits : ℕ) (watch : List Prefix) → length (watched_at bits watch) ≤ length watch
 unfolding watched_at
@@ -31,7 +31,7 @@ few_keys o watch bits most =
     few_asked o.sketch (map prefix_key (watched_at bits watch)) (omega (arith, length-map (watched_at bits watch) prefix_key, few_watched bits watch, most))
 
 pub short_lines : (packets : List Packet) (o : Options) (watch : List Prefix) (rows : List (Listed Answer)) → length watch ≤ 16 → HaveAnswers packets o watch 4 rows
-    → All (λ row. All FitsLine row.items) rows
+    → All (λ row. All HasFewShown row.items) rows
 short_lines packets o watch rows most h k d lt j e within =
     let shown = (h.each k d (omega (arith, lt, h.len))).shown j e within in
     omega (arith, shown, few_keys o watch (8 * (k + 1)) most)

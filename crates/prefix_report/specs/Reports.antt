@@ -58,17 +58,17 @@ pub record IsPrefixReport (packets : List Packet) (records : ℕ) (skipped : Tal
   pub found : IsFound (level_tables o.shape packets) o.heavy o.least r.found.hits.items r.found.more
 
 -- so few estimates that the answer's line is short
-abbrev pub FitsLine : Answer → Type 0
-FitsLine a = length a.shown.items ≤ 16
+abbrev pub HasFewShown : Answer → Type 0
+HasFewShown a = length a.shown.items ≤ 16
 
 -- all of some hits are networks
 abbrev pub AreNetworks : List Hit → Type 0
 AreNetworks hits = All (λ hit. IsNetwork hit.prefix) hits
 
 -- each length is told of, with short lines
-pub record IsComplete (r : PrefixReport) : Type 0 where
+pub record HasEachLength (r : PrefixReport) : Type 0 where
   pub four : length r.answers.items ≡ 4
   pub more : length r.found.more ≡ 4
-  pub answers : All (λ row. All FitsLine row.items) r.answers.items
+  pub answers : All (λ row. All HasFewShown row.items) r.answers.items
   pub watch : AreNetworks r.watch.items
   pub hits : AreNetworks r.found.hits.items

@@ -3,7 +3,7 @@ ghost use Rattle.std.specs.List.{flat_map};
 ghost use Rattle.flow_base.specs.Causes.{HasCause};
 ghost use Rattle.flow_base.specs.Writing.{Writes};
 ghost use Rattle.push_history.specs.Answers.{parts_of};
-ghost use Rattle.prefix_report.specs.Reports.{FitsLine};
+ghost use Rattle.prefix_report.specs.Reports.{HasFewShown};
 ghost use Rattle.prefix_report.specs.PrefixText.{answer_line};
 
 use flow_base::{Failed, Sink};
@@ -13,7 +13,7 @@ use octo_text::{Line, put_estimates};
 // The line of an answer, without its line feed.
 #[tactic(auto, unfolding(crate::specs::PrefixText::answer_line, push_history::specs::Answers::parts_of))]
 fn answer_line(answer: &Answer) -> Line
-    requires { FitsLine answer.now }
+    requires { HasFewShown answer.now }
     ensures text { result ++ codes "\n" ≡ answer_line (parts_of answer.now) }
     ensures room { length result + 1 ≤ 1024 }
 {
@@ -27,7 +27,7 @@ fn answer_line(answer: &Answer) -> Line
 }
 
 fn write_answer<T: Sink>(out: &mut T, answer: &Answer) -> Result<(), Failed>
-    requires { FitsLine answer.now }
+    requires { HasFewShown answer.now }
     ensures writes { Writes (T.holds out.old) (T.holds out.new) (answer_line (parts_of answer.now)) result }
     ensures cause { HasCause (T.faults out.old) (T.faults out.new) result }
 {
@@ -36,7 +36,7 @@ fn write_answer<T: Sink>(out: &mut T, answer: &Answer) -> Result<(), Failed>
 
 /// Writes a line for each answer.
 pub(crate) fn write_answers<T: Sink>(out: &mut T, answers: &[Answer]) -> Result<(), Failed>
-    requires { All FitsLine answers.now }
+    requires { All HasFewShown answers.now }
     ensures writes { Writes (T.holds out.old) (T.holds out.new)
         (flat_map answer_line (map parts_of answers.now)) result }
     ensures cause { HasCause (T.faults out.old) (T.faults out.new) result }

@@ -3,7 +3,7 @@ ghost use Rattle.std.specs.List.{flat_map};
 ghost use Rattle.flow_base.specs.Causes.{HasCause};
 ghost use Rattle.flow_base.specs.Writing.{Writes};
 ghost use Rattle.prefixes.specs.Networks.{IsNetwork};
-ghost use Rattle.prefix_report.specs.Reports.{FitsLine, IsComplete};
+ghost use Rattle.prefix_report.specs.Reports.{HasFewShown, HasEachLength};
 ghost use Rattle.prefix_report.specs.PrefixText.{heavy_line, hit_lines, level_lines, levels_in};
 
 use crate::answers::write_answers;
@@ -43,8 +43,8 @@ fn write_level<T: Sink>(
     answers: &Answers,
     more: bool,
 ) -> Result<(), Failed>
-    requires complete { IsComplete report.now }
-    requires answers { All FitsLine answers.now.items }
+    requires complete { HasEachLength report.now }
+    requires answers { All HasFewShown answers.now.items }
     ensures writes { Writes (T.holds out.old) (T.holds out.new) (level_lines report.now (bits, (answers.now, more))) result }
     ensures cause { HasCause (T.faults out.old) (T.faults out.new) result }
 {
@@ -56,7 +56,7 @@ fn write_level<T: Sink>(
 
 /// Writes what is told of each length, by length upwards.
 pub(crate) fn write_levels<T: Sink>(out: &mut T, report: &PrefixReport) -> Result<(), Failed>
-    requires { IsComplete report.now }
+    requires { HasEachLength report.now }
     ensures writes { Writes (T.holds out.old) (T.holds out.new)
         (flat_map (level_lines report.now) (levels_in report.now)) result }
     ensures cause { HasCause (T.faults out.old) (T.faults out.new) result }

@@ -3,7 +3,7 @@ ghost use Rattle.prefixes.specs.Networks.{IsNetwork};
 ghost use Rattle.prefix_stack.specs.Descent.{IsFound};
 ghost use Rattle.prefix_stack.specs.Levels.{level_tables};
 ghost use Rattle.prefix_stack.specs.Runs.{HaveAnswers};
-ghost use Rattle.prefix_report.specs.Reports.{IsComplete, IsPrefixReport};
+ghost use Rattle.prefix_report.specs.Reports.{HasEachLength, IsPrefixReport};
 
 use crate::amounts::{ipv4_total, other_count};
 use crate::watched::watched;
@@ -57,7 +57,7 @@ pub fn report_of(
     requires found { IsFound stack.tables.items options.now.heavy options.now.least stack.found.hits.items stack.found.more }
     requires networks { All (λ hit. IsNetwork hit.prefix) stack.found.hits.items }
     ensures report { IfOk result (IsPrefixReport packets.now records skipped cut options.now watch.now) }
-    ensures complete { IfOk result IsComplete }
+    ensures complete { IfOk result HasEachLength }
 {
     let estimates = watched(alloc, stack.tables.as_slice(), watch)?;
     Ok(PrefixReport {

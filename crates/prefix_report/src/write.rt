@@ -1,6 +1,6 @@
 ghost use Rattle.flow_base.specs.Causes.{HasCause};
 ghost use Rattle.flow_base.specs.Writing.{Writes};
-ghost use Rattle.prefix_report.specs.Reports.{IsComplete};
+ghost use Rattle.prefix_report.specs.Reports.{HasEachLength};
 ghost use Rattle.prefix_report.specs.PrefixText.{capture_lines, keyed_lines, report_text};
 
 use crate::levels::write_levels;
@@ -32,7 +32,7 @@ fn write_capture<T: Sink>(out: &mut T, report: &PrefixReport) -> Result<(), Fail
 ///
 /// After an error the sink holds a proper front of the text.
 pub fn write_prefix<T: Sink>(out: &mut T, report: &PrefixReport) -> Result<(), Failed>
-    requires { IsComplete report.now }
+    requires { HasEachLength report.now }
     ensures writes { Writes (T.holds out.old) (T.holds out.new) (report_text report.now) result }
     ensures cause { HasCause (T.faults out.old) (T.faults out.new) result }
 {

@@ -11,12 +11,12 @@ counts t w zero x = x
 counts t w (suc n) x = let c = count_step t w x in if is_waits c.1 then c.0 else counts t w n c.0
 
 -- the worker's updates that aren't counted
-abbrev pub left_of : Terms → ℕ → Worker → ℕ
-left_of t w x = length (updates_by t w) - x.counted
+abbrev pub uncounted_of : Terms → ℕ → Worker → ℕ
+uncounted_of t w x = length (updates_by t w) - x.counted
 
 -- the messages in its lane
-abbrev pub held_of : Worker → ℕ
-held_of x = length x.sent - x.taken
+abbrev pub untaken_of : Worker → ℕ
+untaken_of x = length x.sent - x.taken
 
 -- the worker once so many more of its messages were folded
 abbrev pub with_taken : Worker → ℕ → Worker
@@ -28,12 +28,12 @@ next_taken x n = take n (drop x.taken x.sent)
 
 -- the worker after it counted in a round
 unfoldable pub counted_in_round : Terms → Options → ℕ → Worker → Worker
-counted_in_round t o w x = counts t w (min (o.shape.rows * o.round) (left_of t w x)) x
+counted_in_round t o w x = counts t w (min (o.shape.rows * o.round) (uncounted_of t w x)) x
 
 -- its messages that are folded in the round
 unfoldable pub folded_in_round : Terms → Options → ℕ → Worker → List Push
-folded_in_round t o w x = let c = counted_in_round t o w x in next_taken c (min o.batch (held_of c))
+folded_in_round t o w x = let c = counted_in_round t o w x in next_taken c (min o.batch (untaken_of c))
 
 -- the worker after the round
 unfoldable pub own_round : Terms → Options → ℕ → Worker → Worker
-own_round t o w x = let c = counted_in_round t o w x in with_taken c (min o.batch (held_of c))
+own_round t o w x = let c = counted_in_round t o w x in with_taken c (min o.batch (untaken_of c))

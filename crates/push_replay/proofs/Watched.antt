@@ -15,7 +15,7 @@ use Rattle.given_law.specs.Given.{given_messages, given_before}
 use Rattle.given_law.proofs.Determined.{given_before_more, distance_before, all_below}
 use Rattle.push_replay.specs.declared.replay.Fault.{Fault}
 use Rattle.push_replay.specs.declared.replay.Fault.TheVariants.{TooNear, TooFew}
-use Rattle.push_replay.specs.Replays.{first_of, distance_given, AreFine, IsFirst}
+use Rattle.push_replay.specs.Replays.{first_fault, distance_given, AreFine, IsFirstFault}
 
 module _ (r : Rules) (w T L : ℕ) (F : List ℕ) (U : List Update) (u : Update) where
   dist_stays : (k : ℕ) → k < length U → distance_given r w T (U ++ u ∷ []) F k ≡ distance_given r w T U F k
@@ -36,7 +36,7 @@ module _ (r : Rules) (w T L : ℕ) (F : List ℕ) (U : List Update) (u : Update)
   longer : (k : ℕ) → k < length U → k < length (U ++ u ∷ [])
   longer k lt = omega (arith, lt, length_push U u)
 
-  some_stays : (f : Fault) → IsFirst r w T L U F (Some f) → IsFirst r w T L (U ++ u ∷ []) F (Some f)
+  some_stays : (f : Fault) → IsFirstFault r w T L U F (Some f) → IsFirstFault r w T L (U ++ u ∷ []) F (Some f)
   some_stays (TooNear k d) h = (longer k h.0, h.1, fine_stays k (omega (arith, h.0)) h.2, h.3 ∙ sym (dist_stays k h.0), h.4)
   some_stays (TooFew k n) h = (
     longer k h.0,
@@ -71,25 +71,25 @@ module _ (r : Rules) (w T L : ℕ) (F : List ℕ) (U : List Update) (u : Update)
         ∙ distance_last r U u S (subst (All (λ m. m.update < length U)) (sym is) (all_below r w T U F (length U)))
         ∙ ap (r.distance (told_of r u.cell S)) (whole_own r U u)
 
-    pub quiet : (fault : Option Fault) → IsFirst r w T L U F fault → is_refused (length U) F ≡ false → IsFirst r w T L (U ++ u ∷ []) F fault
+    pub quiet : (fault : Option Fault) → IsFirstFault r w T L U F fault → is_refused (length U) F ≡ false → IsFirstFault r w T L (U ++ u ∷ []) F fault
     quiet None h free = all_fine h (λ refused. absurd (let bad : true ≡ false = sym refused ∙ free in cc))
     quiet (Some f) h free = some_stays f h
 
-    near : (fault : Option Fault) (d : ℕ) → IsFirst r w T L U F fault → is_refused (length U) F ≡ true → d ≡ far_here → far_here < T
-        → IsFirst r w T L (U ++ u ∷ []) F (first_of fault (Some (TooNear (length U) d)))
+    near : (fault : Option Fault) (d : ℕ) → IsFirstFault r w T L U F fault → is_refused (length U) F ≡ true → d ≡ far_here → far_here < T
+        → IsFirstFault r w T L (U ++ u ∷ []) F (first_fault fault (Some (TooNear (length U) d)))
     near None d h refused d_is low = (omega (arith, length_push U u), refused, fine_stays (length U) (omega arith) h, d_is ∙ sym dist_here, omega (arith, d_is, low))
     near (Some f) d h refused d_is low = some_stays f h
 
     -- a count that makes no push due
-    pub none_step : (fault result : Option Fault) (b : Bool) (number d : ℕ) → IsFirst r w T L U F fault → b ≡ is_refused (length U) F → number ≡ length U → d ≡ far_here → far_here < T
-        → result ≡ first_of fault (if b then Some (TooNear number d) else None) → IsFirst r w T L (U ++ u ∷ []) F result
+    pub none_step : (fault result : Option Fault) (b : Bool) (number d : ℕ) → IsFirstFault r w T L U F fault → b ≡ is_refused (length U) F → number ≡ length U → d ≡ far_here → far_here < T
+        → result ≡ first_fault fault (if b then Some (TooNear number d) else None) → IsFirstFault r w T L (U ++ u ∷ []) F result
     none_step fault result true number d h refused n d_is low is_result =
-        subst (IsFirst r w T L (U ++ u ∷ []) F) (sym (is_result ∙ ap (λ (k : ℕ). first_of fault (Some (TooNear k d))) n)) (near fault d h (sym refused) d_is low)
-    none_step None result false number d h free n d_is low is_result = subst (IsFirst r w T L (U ++ u ∷ []) F) (sym is_result) (quiet None h (sym free))
-    none_step (Some f) result false number d h free n d_is low is_result = subst (IsFirst r w T L (U ++ u ∷ []) F) (sym is_result) (some_stays f h)
+        subst (IsFirstFault r w T L (U ++ u ∷ []) F) (sym (is_result ∙ ap (λ (k : ℕ). first_fault fault (Some (TooNear k d))) n)) (near fault d h (sym refused) d_is low)
+    none_step None result false number d h free n d_is low is_result = subst (IsFirstFault r w T L (U ++ u ∷ []) F) (sym is_result) (quiet None h (sym free))
+    none_step (Some f) result false number d h free n d_is low is_result = subst (IsFirstFault r w T L (U ++ u ∷ []) F) (sym is_result) (some_stays f h)
 
-    few : (fault : Option Fault) (n : ℕ) (b : Bool) → nat_lt n L ≡ b → IsFirst r w T L U F fault → is_refused (length U) F ≡ true → T ≤ far_here → n ≡ length S
-        → IsFirst r w T L (U ++ u ∷ []) F (first_of fault (if b then Some (TooFew (length U) n) else None))
+    few : (fault : Option Fault) (n : ℕ) (b : Bool) → nat_lt n L ≡ b → IsFirstFault r w T L U F fault → is_refused (length U) F ≡ true → T ≤ far_here → n ≡ length S
+        → IsFirstFault r w T L (U ++ u ∷ []) F (first_fault fault (if b then Some (TooFew (length U) n) else None))
     few None n true low h refused far many =
         let below : n < L = grind arith in
         (omega (arith, length_push U u), refused, fine_stays (length U) (omega arith) h, subst (λ (x : ℕ). T ≤ x) (sym dist_here) far, many ∙ sym (ap length given_is), below)
@@ -99,8 +99,8 @@ module _ (r : Rules) (w T L : ℕ) (F : List ℕ) (U : List Update) (u : Update)
     few (Some f) n b test h refused far many = some_stays f h
 
     -- a due push that is refused
-    pub refused_step : (fault result : Option Fault) (number n : ℕ) → IsFirst r w T L U F fault → is_refused (length U) F ≡ true → number ≡ length U → n ≡ length S → T ≤ far_here
-        → result ≡ first_of fault (if nat_lt n L then Some (TooFew number n) else None) → IsFirst r w T L (U ++ u ∷ []) F result
+    pub refused_step : (fault result : Option Fault) (number n : ℕ) → IsFirstFault r w T L U F fault → is_refused (length U) F ≡ true → number ≡ length U → n ≡ length S → T ≤ far_here
+        → result ≡ first_fault fault (if nat_lt n L then Some (TooFew number n) else None) → IsFirstFault r w T L (U ++ u ∷ []) F result
     refused_step fault result number n h refused k many far is_result =
-        subst (IsFirst r w T L (U ++ u ∷ []) F) (sym (is_result ∙ ap (λ (j : ℕ). first_of fault (if nat_lt n L then Some (TooFew j n) else None)) k))
+        subst (IsFirstFault r w T L (U ++ u ∷ []) F) (sym (is_result ∙ ap (λ (j : ℕ). first_fault fault (if nat_lt n L then Some (TooFew j n) else None)) k))
         (few fault n (nat_lt n L) refl h refused far many)

@@ -10,9 +10,9 @@ use Rattle.push_replay.specs.declared.replay.Fault.TheVariants.{TooNear, TooFew}
 use Rattle.push_replay.specs.declared.replay.Replay.{Replay}
 
 -- the fault that was found first
-abbrev pub first_of : Option Fault → Option Fault → Option Fault
-first_of None found = found
-first_of (Some fault) found = Some fault
+abbrev pub first_fault : Option Fault → Option Fault → Option Fault
+first_fault None found = found
+first_fault (Some fault) found = Some fault
 
 -- how far the cell of update k is from what was told before it
 abbrev pub distance_given : Rules → ℕ → ℕ → List Update → List ℕ → ℕ → ℕ
@@ -24,12 +24,12 @@ AreFine r w T L updates refused n = (k : ℕ) → k < n → is_refused k refused
     → (T ≤ distance_given r w T updates refused k) × (L ≤ length (given_before r w T updates refused k))
 
 -- this is wrong with the first refused update that isn't, if one isn't
-abbrev pub IsFirst : Rules → ℕ → ℕ → ℕ → List Update → List ℕ → Option Fault → Type 0
-IsFirst r w T L updates refused None = AreFine r w T L updates refused (length updates)
-IsFirst r w T L updates refused (Some (TooNear k d)) =
+abbrev pub IsFirstFault : Rules → ℕ → ℕ → ℕ → List Update → List ℕ → Option Fault → Type 0
+IsFirstFault r w T L updates refused None = AreFine r w T L updates refused (length updates)
+IsFirstFault r w T L updates refused (Some (TooNear k d)) =
     (k < length updates) × (is_refused k refused ≡ true) × AreFine r w T L updates refused k
     × (d ≡ distance_given r w T updates refused k) × (d < T)
-IsFirst r w T L updates refused (Some (TooFew k n)) =
+IsFirstFault r w T L updates refused (Some (TooFew k n)) =
     (k < length updates) × (is_refused k refused ≡ true) × AreFine r w T L updates refused k
     × (T ≤ distance_given r w T updates refused k) × (n ≡ length (given_before r w T updates refused k)) × (n < L)
 
@@ -55,4 +55,4 @@ module _ {K Held : Type 0} where
   pub record Tells (stands : Held → ℤ → ℤ → Type 0) (r : Rules) (w T : ℕ) (refused : List ℕ) (updates : List Update)
       (p : Replay K Held) : Type 0 where
     pub replays : Replays stands r w T refused updates p
-    pub first : IsFirst r w T p.lane updates refused p.fault
+    pub first : IsFirstFault r w T p.lane updates refused p.fault

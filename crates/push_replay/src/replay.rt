@@ -1,7 +1,7 @@
 ghost use Rattle.std.specs.Prelude.{◌≡◌, ◌<◌, ◌+◌, ◌++◌, ◌∷◌, [], ℕ, List, length, true, None, Some, nat_lt, if◌then◌else◌, IfOk, OnOk};
 ghost use Rattle.hash_rows.specs.declared.shape.Update.{Update};
 ghost use Rattle.push_history.specs.Pushes.{is_refused};
-ghost use Rattle.push_replay.specs.Replays.{Replays, IsFirst, KeepsSize, first_of};
+ghost use Rattle.push_replay.specs.Replays.{Replays, IsFirstFault, KeepsSize, first_fault};
 ghost use Rattle.push_replay.specs.declared.replay.Fault.{Fault};
 
 use flow_base::NoMemory;
@@ -20,7 +20,7 @@ pub enum Fault {
 
 // The first of two that may be there.
 fn first_of(fault: Option<Fault>, found: Option<Fault>) -> Option<Fault>
-    ensures { result ≡ first_of fault found }
+    ensures { result ≡ first_fault fault found }
 {
     match fault {
         Some(fault) => Some(fault),
@@ -113,8 +113,8 @@ impl<K: Kind> Replay<K> {
             → refused ≡ is_refused (length updates) F
             → OnOk result (Replays K.stands K.rules w T F (updates ++ update.now ∷ []) self.new) }
         ensures watches { (w T : ℕ) (F : List ℕ) (updates : List Update) → Replays K.stands K.rules w T F updates self.old
-            → refused ≡ is_refused (length updates) F → IsFirst K.rules w T self.old.lane updates F self.old.fault
-            → OnOk result (IsFirst K.rules w T self.new.lane (updates ++ update.now ∷ []) F self.new.fault) }
+            → refused ≡ is_refused (length updates) F → IsFirstFault K.rules w T self.old.lane updates F self.old.fault
+            → OnOk result (IsFirstFault K.rules w T self.new.lane (updates ++ update.now ∷ []) F self.new.fault) }
         ensures counted { self.new.sketch.counted ≡ self.old.sketch.counted + 1 }
         ensures same { KeepsSize self.old self.new }
     {

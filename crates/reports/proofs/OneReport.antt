@@ -17,7 +17,7 @@ use Rattle.heavy_keys.proofs.Members.{Has, contains_from, has_from}
 use Rattle.octo_text.specs.Lines.{count_line, words_line}
 use Rattle.octo_text.specs.ReportText.{report_text, sketch_line, capture_lines, table_lines, estimate_line, estimate_lines, flow_lines}
 use Rattle.octo_text.specs.declared.report.Report.{Report}
-use Rattle.reports.specs.ReportOf.{AskForOneReport, Distinct, Finds, HeavyFlows, IsReport}
+use Rattle.reports.specs.ReportOf.{AskForOneReport, Distinct, FindsFlows, HeavyFlows, IsReport}
 use Rattle.reports.proofs.OneOrder.{one_list}
 
 turned : (a b : FlowKey) → key_cmp a b ≡ Less → key_cmp b a ≡ Less → ⊥
@@ -59,7 +59,7 @@ one_heavy estimate_of o packets d e m n xs ys a b =
     (a.no_estimate ∙ sym b.no_estimate, flows.0, flows.1)
 
 one_finding : (k : Sketch) (estimate_of : FlowKey → ℤ) (o : Options) (packets : List Packet) (d e : Option ℤ) (m n : ℕ) (xs ys : List Flow)
-    → Finds k estimate_of o packets d m xs → Finds k estimate_of o packets e n ys → Same d e m n xs ys
+    → FindsFlows k estimate_of o packets d m xs → FindsFlows k estimate_of o packets e n ys → Same d e m n xs ys
 one_finding LogLog estimate_of o packets d e m n xs ys a b = one_distinct estimate_of d e m n xs ys a b
 one_finding CountMin estimate_of o packets d e m n xs ys a b = one_heavy estimate_of o packets d e m n xs ys a b
 one_finding CountSketch estimate_of o packets d e m n xs ys a b = one_heavy estimate_of o packets d e m n xs ys a b
@@ -132,7 +132,7 @@ one_report packets records skipped cut o p r s ask a b =
     by_options packets records skipped cut o r s a d
   where
     found : (k : Sketch) (estimate_of : FlowKey → ℤ) (x y : Options) (packets : List Packet) (d : Option ℤ) (m : ℕ) (flows : List Flow) → y.least ≡ x.least → y.heavy ≡ x.heavy
-        → Finds k estimate_of y packets d m flows → Finds k estimate_of x packets d m flows
+        → FindsFlows k estimate_of y packets d m flows → FindsFlows k estimate_of x packets d m flows
     found LogLog estimate_of x y packets d m flows least heavy f = f
     found CountMin estimate_of x y packets d m flows least heavy f = record { no_estimate = f.no_estimate; heaviest = rw (sym least, sym heavy) f.heaviest }
     found CountSketch estimate_of x y packets d m flows least heavy f = record { no_estimate = f.no_estimate; heaviest = rw (sym least, sym heavy) f.heaviest }

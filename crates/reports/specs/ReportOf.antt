@@ -33,10 +33,10 @@ pub record HeavyFlows (estimate_of : FlowKey → ℤ) (options : Options) (packe
   pub heaviest : AreHeaviest estimate_of options.least (map (λ p. p.key) packets) options.heavy heavy flows
 
 -- a LogLog tells the number of keys, the other sketches tell heavy flows
-abbrev pub Finds : Sketch → (FlowKey → ℤ) → Options → List Packet → Option ℤ → ℕ → List Flow → Type 0
-Finds LogLog estimate_of options packets distinct heavy flows = Distinct estimate_of distinct heavy flows
-Finds CountMin estimate_of options packets distinct heavy flows = HeavyFlows estimate_of options packets distinct heavy flows
-Finds CountSketch estimate_of options packets distinct heavy flows = HeavyFlows estimate_of options packets distinct heavy flows
+abbrev pub FindsFlows : Sketch → (FlowKey → ℤ) → Options → List Packet → Option ℤ → ℕ → List Flow → Type 0
+FindsFlows LogLog estimate_of options packets distinct heavy flows = Distinct estimate_of distinct heavy flows
+FindsFlows CountMin estimate_of options packets distinct heavy flows = HeavyFlows estimate_of options packets distinct heavy flows
+FindsFlows CountSketch estimate_of options packets distinct heavy flows = HeavyFlows estimate_of options packets distinct heavy flows
 
 -- the report tells what was read, and what the table says by the rules
 pub record Reports (rules : Rules) (table : TableView) (packets : List Packet) (records : ℕ) (skipped : Tallies) (cut : ℕ)
@@ -51,7 +51,7 @@ pub record Reports (rules : Rules) (table : TableView) (packets : List Packet) (
   pub total : report.total ≡ total_amount packets
   pub used : report.used.items ≡ map (used_in table) (rows_of table.shape)
   pub watch : report.watch.items ≡ map (flow_by (rules.estimate table.shape table.cells)) options.watch.items
-  pub finds : Finds options.sketch (rules.estimate table.shape table.cells) options packets report.distinct report.heavy report.flows.items
+  pub finds : FindsFlows options.sketch (rules.estimate table.shape table.cells) options packets report.distinct report.heavy report.flows.items
 
 -- the same, of the one table that takes every packet
 unfoldable pub IsReport : List Packet → ℕ → Tallies → ℕ → Options → Report → Type 0

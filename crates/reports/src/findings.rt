@@ -1,5 +1,5 @@
 ghost use Rattle.std.specs.Prelude.{◌≡◌, map, IfOk};
-ghost use Rattle.reports.specs.ReportOf.{flow_by, Distinct, Finds, HeavyFlows};
+ghost use Rattle.reports.specs.ReportOf.{flow_by, Distinct, FindsFlows, HeavyFlows};
 
 use flow_base::NoMemory;
 use hash_rows::{Flow, Flows, Keys, Kind, Options, Packet, Sketch, Table, ZERO_KEY};
@@ -69,7 +69,7 @@ pub fn findings_of<K: Kind>(
     table: &Table<K>,
 ) -> Result<Findings, NoMemory>
     ensures { IfOk result
-        (λ f. Finds K.sketch
+        (λ f. FindsFlows K.sketch
         (K.rules.estimate table.now.shape table.now.cells) options.now packets.now f.distinct f.heavy f.flows.items) }
 {
     match K::which_sketch() {

@@ -7,7 +7,7 @@ use Rattle.hash_rows.specs.declared.options.Options.{Options}
 use Rattle.hash_rows.specs.declared.shape.Update.{Update}
 use Rattle.push_history.specs.Front.{front_of, messages_of}
 use Rattle.push_history.specs.LagRun.{Terms, Worker, fresh_worker, updates_by, worker_in}
-use Rattle.push_history.specs.OwnSteps.{held_of, left_of}
+use Rattle.push_history.specs.OwnSteps.{untaken_of, uncounted_of}
 use Rattle.round_law.proofs.WorkLeft.{is_own_busy}
 use Rattle.push_history.specs.Pushes.{ArePushes}
 use Rattle.round_law.specs.RoundStates.{round_state}
@@ -24,7 +24,7 @@ module _ (t : Terms) (o : Options) (same : length t.updates ≡ o.workers) (n : 
   abbrev last : ℕ → Worker
   last w = worker_in (round_state t o n) w
 
-  last_idle : (w : ℕ) → w < o.workers → (left_of t w (last w) ≡ 0) × (held_of (last w) ≡ 0)
+  last_idle : (w : ℕ) → w < o.workers → (uncounted_of t w (last w) ≡ 0) × (untaken_of (last w) ≡ 0)
   last_idle w lt = nothing_left t w (last w) (ap (is_own_busy t w) (worker_after t o same n w lt) ∙ worker_idle t o same n idle w lt)
 
   pub all_counted : (w : ℕ) → w < o.workers → (last w).counted ≡ length (updates_by t w)

@@ -9,7 +9,7 @@ use Rattle.hash_rows.specs.declared.options.Options.{Options}
 use Rattle.hash_rows.specs.declared.shape.Push.{Push}
 use Rattle.push_history.specs.declared.event.Event.{Event}
 use Rattle.push_history.specs.LagRun.{Terms, Worker, fresh_worker, lag_run, start}
-use Rattle.push_history.specs.OwnSteps.{counts, left_of, held_of, with_taken, next_taken, own_round, folded_in_round, counted_in_round}
+use Rattle.push_history.specs.OwnSteps.{counts, uncounted_of, untaken_of, with_taken, next_taken, own_round, folded_in_round, counted_in_round}
 use Rattle.round_law.proofs.WorkLeft.{is_own_busy}
 use Rattle.round_law.specs.RoundStates.{round_state}
 use Rattle.push_history.specs.Rounds.{AreRounds, ask_at_end, is_busy, events_of_rounds}
@@ -30,19 +30,19 @@ neither a b none = elim (cases_lt 0 a) [
 ]
 
 -- nothing counted, nothing taken
-pub nothing_left : (t : Terms) (w : ℕ) (x : Worker) → is_own_busy t w x ≡ false → (left_of t w x ≡ 0) × (held_of x ≡ 0)
-nothing_left t w x none = neither (left_of t w x) (held_of x) none
+pub nothing_left : (t : Terms) (w : ℕ) (x : Worker) → is_own_busy t w x ≡ false → (uncounted_of t w x ≡ 0) × (untaken_of x ≡ 0)
+nothing_left t w x none = neither (uncounted_of t w x) (untaken_of x) none
 
 module _ (t : Terms) (o : Options) (w : ℕ) (x : Worker) (none : is_own_busy t w x ≡ false) where
   counted_same : counted_in_round t o w x ≡ x
   unfolding counted_in_round
   counted_same =
       let left = (nothing_left t w x none).0 in
-      let zero_more : min (o.shape.rows * o.round) (left_of t w x) ≡ 0 = omega (arith, left) in
+      let zero_more : min (o.shape.rows * o.round) (uncounted_of t w x) ≡ 0 = omega (arith, left) in
       ap (λ n. counts t w n x) zero_more
 
-  none_held : min o.batch (held_of (counted_in_round t o w x)) ≡ 0
-  none_held = let held = (nothing_left t w x none).1 in omega (arith, ap held_of counted_same, held)
+  none_held : min o.batch (untaken_of (counted_in_round t o w x)) ≡ 0
+  none_held = let held = (nothing_left t w x none).1 in omega (arith, ap untaken_of counted_same, held)
 
   idle_round : own_round t o w x ≡ x
   unfolding own_round

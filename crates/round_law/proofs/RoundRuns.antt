@@ -12,7 +12,7 @@ use Rattle.push_history.specs.Share.{zero_key}
 use Rattle.push_history.specs.Front.{message_at}
 use Rattle.push_history.specs.LagRun.{Terms, Worker, State, worker_in, fresh_worker, take_step, lag_step, lag_run}
 use Rattle.push_history.specs.Rounds.{count_times, count_in_round, fold_in_round, held_by, updates_left}
-use Rattle.push_history.specs.OwnSteps.{counts, held_of, with_taken, next_taken, counted_in_round}
+use Rattle.push_history.specs.OwnSteps.{counts, untaken_of, with_taken, next_taken, counted_in_round}
 use Rattle.push_history.proofs.Runs.{run_more, count_times_run, same_worker, set_twice}
 
 abbrev no_push : Push
@@ -95,7 +95,7 @@ counting_is_phase t o events s w is within =
     ∙ ap (λ (ms : List Push). record { workers = slice_set s.workers w (counts t w (n s) (worker_in s w)); folded = ms; shown = s.shown; seen = s.seen }) (sym (append-nil s.folded))
 
 -- the oldest message of a lane is folded
-take_once : (t : Terms) (s : State) (w : ℕ) → 1 ≤ held_of (worker_in s w)
+take_once : (t : Terms) (s : State) (w : ℕ) → 1 ≤ untaken_of (worker_in s w)
     → (lag_step t s (Take w)).0 ≡ stepped s w (with_taken (worker_in s w) 1) (message_at (worker_in s w).sent (worker_in s w).taken ∷ [])
 unfolding lag_step take_step
 take_once t s w held =
@@ -104,7 +104,7 @@ take_once t s w held =
     rw some refl
 
 -- and then n more
-take_more : (s : State) (w n : ℕ) → suc n ≤ held_of (worker_in s w)
+take_more : (s : State) (w n : ℕ) → suc n ≤ untaken_of (worker_in s w)
     → stepped (stepped s w (with_taken (worker_in s w) 1) (message_at (worker_in s w).sent (worker_in s w).taken ∷ [])) w
     (with_taken (with_taken (worker_in s w) 1) n) (next_taken (with_taken (worker_in s w) 1) n)
     ≡ stepped s w (with_taken (worker_in s w) (suc n)) (next_taken (worker_in s w) (suc n))
@@ -122,7 +122,7 @@ take_more s w n held =
 
 -- the oldest messages of a lane are folded
 takes_run : (t : Terms) (readers w n : ℕ) (events : List Event) (s : State) → lag_run t readers events ≡ s → w < length s.workers
-    → n ≤ held_of (worker_in s w)
+    → n ≤ untaken_of (worker_in s w)
     → lag_run t readers (events ++ replicate n (Take w)) ≡ stepped s w (with_taken (worker_in s w) n) (next_taken (worker_in s w) n)
 takes_run t readers w zero events s is within held =
     let x = worker_in s w in
@@ -137,13 +137,13 @@ takes_run t readers w (suc n) events s is within held =
     run_more t readers events (Take w) ∙ ap (λ (z : State). (lag_step t z (Take w)).0) is ∙ take_once t s w (omega (arith, held)) in
     let there : worker_in one w ≡ with_taken x 1 = get_or-set_same s.workers w (with_taken x 1) fresh_worker within in
     let inside : w < length one.workers = rw (length-set s.workers w (with_taken x 1)) within in
-    let few : n ≤ held_of (worker_in one w) = subst (λ (y : Worker). n ≤ held_of y) (sym there) (omega (arith, held)) in
+    let few : n ≤ untaken_of (worker_in one w) = subst (λ (y : Worker). n ≤ untaken_of y) (sym there) (omega (arith, held)) in
     ap (lag_run t readers) (sym (append_assoc events (Take w ∷ []) (replicate n (Take w))))
     ∙ takes_run t readers w n (events ++ Take w ∷ []) one now inside few
     ∙ ap (λ (y : Worker). stepped one w (with_taken y n) (next_taken y n)) there
     ∙ take_more s w n (omega (arith, held))
 
-pub folding_is_phase : (t : Terms) (o : Options) → IsPhase t o.readers (fold_in_round t o) (λ w x. with_taken x (min o.batch (held_of x))) (λ w x. next_taken x (min o.batch (held_of x)))
+pub folding_is_phase : (t : Terms) (o : Options) → IsPhase t o.readers (fold_in_round t o) (λ w x. with_taken x (min o.batch (untaken_of x))) (λ w x. next_taken x (min o.batch (untaken_of x)))
 unfolding fold_in_round
 folding_is_phase t o events s w is within =
     let n : State → ℕ = λ z. min o.batch (held_by z w) in

@@ -10,7 +10,7 @@ use Rattle.push_history.specs.declared.event.Event.TheVariants.{Publish, Ask}
 use Rattle.push_history.specs.LagRun.{Terms, Worker, State, worker_in, lag_step, lag_run}
 use Rattle.push_history.specs.Answers.{is_ask}
 use Rattle.push_history.specs.Rounds.{count_in_round, fold_in_round, ask_in_round, with_round}
-use Rattle.push_history.specs.OwnSteps.{held_of, with_taken, next_taken, counted_in_round, folded_in_round, own_round}
+use Rattle.push_history.specs.OwnSteps.{untaken_of, with_taken, next_taken, counted_in_round, folded_in_round, own_round}
 use Rattle.push_history.proofs.Runs.{run_more}
 use Rattle.round_law.proofs.RoundRuns.{Steps, phase_run, counting_is_phase, folding_is_phase, flat_map_same}
 
@@ -72,7 +72,7 @@ before_asks_run t o events s is len =
     let s₁ = lag_run t o.readers counting in
     let counted : Steps (counted_in_round t o) (λ w x. []) 0 o.workers s s₁ =
     phase_run t o.readers (count_in_round t o) (counted_in_round t o) (λ w x. []) (counting_is_phase t o) 0 o.workers events s is (omega (arith, len)) in
-    let n : Worker → ℕ = λ x. min o.batch (held_of x) in
+    let n : Worker → ℕ = λ x. min o.batch (untaken_of x) in
     let folding = fold (fold_in_round t o) counting (range_with_len 0 o.workers) in
     let s₂ = lag_run t o.readers folding in
     let folded : Steps (λ w x. with_taken x (n x)) (λ w x. next_taken x (n x)) 0 o.workers s₁ s₂ =

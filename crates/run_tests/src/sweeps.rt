@@ -1,5 +1,5 @@
 ghost use Rattle.std.specs.Prelude.{◌≡◌, ◌<◌, ◌+◌, ◌^◌, length};
-ghost use Rattle.aggregate.specs.Takens.{AreEnds};
+ghost use Rattle.aggregate.specs.Takens.{ArePassesOf};
 
 use aggregate::{Aggregator, OutPasses};
 use count_min::CountMin;
@@ -50,8 +50,8 @@ fn sweep_once<R: Wait>(
     aggregator: &mut Aggregator<CountMin>,
     lanes: &[Lane],
 ) -> Result<(u32, u64), NoMemory>
-    requires { AreEnds lanes.now aggregator.old.outs }
-    ensures { AreEnds lanes.now aggregator.new.outs }
+    requires { ArePassesOf lanes.now aggregator.old.outs }
+    ensures { ArePassesOf lanes.now aggregator.new.outs }
 {
     let swept = aggregator.sweep(rt, lanes)?;
     Ok((swept.taken, aggregator.folded()))

@@ -7,7 +7,7 @@ use Rattle.std.proofs.lemmas.Bool.{cases_lt}
 use Rattle.std.proofs.lemmas.List.FromFn.{get_or-map-range_with_len, length-map-range_with_len, map-range_with_len_more}
 use Rattle.shares.specs.declared.positions.Form.{Form}
 use Rattle.shares.specs.declared.positions.Form.TheVariants.{Turns}
-use Rattle.shares.specs.Positions.{IsShort, positions_in}
+use Rattle.shares.specs.Positions.{HasShortPositions, positions_in}
 use Rattle.shares.proofs.Owning.{owned_more}
 
 div_is : (q x d : ℕ) → 0 < d → d * q ≤ x → x < d * q + d → x / d ≡ q
@@ -110,9 +110,9 @@ module _ (form : Form) (xs : List ℕ) (first step count : ℕ) (view : position
       let len = many_turns in
       sym (ap (λ (l : List ℕ). get_or l place 0) items_are ∙ get_or-map-range_with_len nth 0 count place place 0 (omega (arith, lt, len)) (omega arith))
 
-  pub turn_fits : (place : ℕ) → place < length xs → IsShort form → first + step * place < 2 ^ 32
+  pub turn_fits : (place : ℕ) → place < length xs → HasShortPositions form → first + step * place < 2 ^ 32
   turn_fits place lt short =
       let len = many_turns in
-      let all : first + step * count < 2 ^ 32 = subst IsShort is short in
+      let all : first + step * count < 2 ^ 32 = subst HasShortPositions is short in
       let most : step * place ≤ step * count = mul-le-mul_left step (omega (arith, lt, len)) in
       omega (arith, all, most)

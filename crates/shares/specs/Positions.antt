@@ -11,9 +11,9 @@ positions_in (Turns first step count) = map (λ k. first + step * k) (range_with
 positions_in (Listed list) = list.items
 
 -- each position fits in 32 bits
-abbrev pub IsShort : Form → Type 0
-IsShort (Turns first step count) = first + step * count < 2 ^ 32
-IsShort (Listed _) = Unit {0}
+abbrev pub HasShortPositions : Form → Type 0
+HasShortPositions (Turns first step count) = first + step * count < 2 ^ 32
+HasShortPositions (Listed _) = Unit {0}
 
 -- a rising list of positions, each below the number
 pub record AreRising (number : ℕ) (positions : List ℕ) : Type 0 where

@@ -20,13 +20,13 @@ enum Form {
 
 impl Model for Positions {
     ghost use Rattle.std.specs.Prelude.{List, ℕ};
-    ghost use Rattle.shares.specs.Positions.{IsShort, positions_in};
+    ghost use Rattle.shares.specs.Positions.{HasShortPositions, positions_in};
 
     ghost Value = { List ℕ };
 
     ghost view = { λ p. positions_in p.form };
 
-    ghost invariant = { λ p. IsShort p.form };
+    ghost invariant = { λ p. HasShortPositions p.form };
 }
 
 impl Positions {

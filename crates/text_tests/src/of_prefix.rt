@@ -1,7 +1,7 @@
 // The text of the command `prefix`, over sinks in memory.
 ghost use Rattle.std.specs.Prelude.{◌≤◌, ◌≤ℤ◌, pos, length, IfOk};
 ghost use Rattle.hash_rows.specs.Shapes.{IsShape};
-ghost use Rattle.prefix_report.specs.Reports.{IsComplete};
+ghost use Rattle.prefix_report.specs.Reports.{HasEachLength};
 ghost use Rattle.prefix_stack.specs.Runs.{IsStackRun};
 ghost use Rattle.prefixes.specs.Networks.{AreWatched};
 
@@ -87,7 +87,7 @@ fn counted<R: Threads + Sync>(
     requires few { length packets.now ≤ 16 }
     requires options { IsStackRun options.now }
     requires watch { AreWatched watch.now }
-    ensures { IfOk result IsComplete }
+    ensures { IfOk result HasEachLength }
 {
     let stack = run_levels(rt, alloc, packets, options, watch)?;
     let records = packets.len() as u64;
@@ -109,7 +109,7 @@ fn check_text<R: Abort>(
     report: &PrefixReport,
     text: &str,
 ) -> Result<(), NoMemory>
-    requires { IsComplete report.now }
+    requires { HasEachLength report.now }
 {
     let mut sink = MemSink::new(alloc, 4096, &[])?;
     assert_eq!(rt; write_prefix(&mut sink, report), Ok(()));

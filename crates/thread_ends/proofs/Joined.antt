@@ -6,7 +6,7 @@ use Rattle.std.proofs.lemmas.List.Elements.{All-push}
 use Rattle.push_lane.specs.Rule.{StartsWith}
 use Rattle.push_lane.specs.Views.{BothView, InView, LaneView, OutView, TableId}
 use Rattle.push_rule.specs.Stands.{PrivateView}
-use Rattle.aggregate.specs.Takens.{AreEnds, takens}
+use Rattle.aggregate.specs.Takens.{ArePassesOf, takens}
 use Rattle.hash_rows.specs.declared.shape.Push.{Push}
 use Rattle.thread_run.specs.declared.parts.WorkerPart.{WorkerPart}
 use Rattle.thread_ends.specs.Ends.{AreOf, AreOne, HaveOrder, IsOne, both_fulls, both_sents, both_takens}
@@ -82,7 +82,7 @@ module _ {K H : Type 0} where
   same_ids (l ∷ ls) (w ∷ ws) e h = ap₂ (λ a b. a ∷ b) (h 0 l w (omega arith)) (same_ids ls ws (omega (arith, e)) (λ i d p lt. h (suc i) d p (omega (arith, lt))))
 
   pub joined_none : (lanes : List LaneView) (workers : List (WorkerPart K H)) (outs : List OutView) → length workers ≡ length lanes
-      → ((i : ℕ) (l : LaneView) (p : WorkerPart K H) → i < length lanes → worker_id (get_or workers i p) ≡ lane_id (get_or lanes i l)) → AreEnds lanes outs
+      → ((i : ℕ) (l : LaneView) (p : WorkerPart K H) → i < length lanes → worker_id (get_or workers i p) ≡ lane_id (get_or lanes i l)) → ArePassesOf lanes outs
       → AreJoined lanes workers outs 0 workers outs [] []
   joined_none lanes workers outs len ids ends = record {
     worker_ids = same_ids lanes workers len ids;

@@ -1,6 +1,6 @@
 //! The two ends of each lane become one.
 ghost use Rattle.std.specs.Prelude.{◌≡◌, ◌<◌, ◌≤◌, ℕ, [], ◌∷◌, ◌++◌, length, map, slice_index_or};
-ghost use Rattle.aggregate.specs.Takens.{AreEnds};
+ghost use Rattle.aggregate.specs.Takens.{ArePassesOf};
 ghost use Rattle.push_lane.specs.Views.{BothView, LaneView};
 ghost use Rattle.thread_ends.specs.Ends.{AreOne, IsOne};
 
@@ -48,7 +48,7 @@ pub fn take_in_all<K: Kind, R: Wait>(
     requires workers { length workers.items ≡ length lanes.now }
     requires ids { (i : ℕ) (l : LaneView) (p : _) → i < length lanes.now
         → (slice_index_or workers.items i p).pass.id ≡ (slice_index_or lanes.now i l).id }
-    requires ends { AreEnds lanes.now outs.items }
+    requires ends { ArePassesOf lanes.now outs.items }
     requires passes_room { (passes.old.items ≡ []) × (length lanes.now ≤ passes.old.room) }
     requires sketches_room { (sketches.old.items ≡ []) × (length lanes.now ≤ sketches.old.room) }
     ensures sketches { sketches.new.items ≡ map (λ p. p.sketch) workers.items }

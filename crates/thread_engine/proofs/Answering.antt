@@ -23,7 +23,7 @@ use Rattle.live_state.specs.declared.layout.Layout.{Layout}
 use Rattle.live_state.proofs.Live.{shows_all}
 use Rattle.live_view.specs.Views.{ReaderView}
 use Rattle.octo_engine.specs.Looks.{layout_in}
-use Rattle.thread_law.specs.Ran.{AreAnswers, IsAnswer, StandsAt}
+use Rattle.thread_law.specs.Ran.{AreAnswers, IsAnswer, IsAnswerNumber}
 use Rattle.thread_engine.specs.Readers.{HasSeen}
 
 -- the items of lists of one length, one list after another
@@ -108,7 +108,7 @@ answers_are {P} o published fit few parts view_of answers_of count each =
     let all = flat_map answers_of parts in
     let lengths : (i : ℕ) (p : P) → i < length parts → length (answers_of (get_or parts i p)) ≡ o.asks = λ i p lt.
     let h = each i p (omega (arith, lt, count)) in h.asked.len ∙ h.asks in
-    let own : (q k : ℕ) (p : P) (a : Answer) → q < o.readers → k < o.asks → StandsAt o all q k a → get_or (answers_of (get_or parts q p)) k a ≡ a = λ q k p a low high is.
+    let own : (q k : ℕ) (p : P) (a : Answer) → q < o.readers → k < o.asks → IsAnswerNumber o all q k a → get_or (answers_of (get_or parts q p)) k a ≡ a = λ q k p a low high is.
     sym (flat_at answers_of o.asks parts lengths q k p a (omega (arith, low, count)) high) ∙ get_or_from_slice_get all (q * o.asks + k) a a is in
     record {
       len = flat_len answers_of o.asks parts lengths ∙ ap (λ (n : ℕ). n * o.asks) count;

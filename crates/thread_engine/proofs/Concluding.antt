@@ -17,16 +17,16 @@ use Rattle.push_rule.specs.Stands.{PrivateView, StandsFor}
 use Rattle.live_state.specs.Shows.{Shows}
 use Rattle.octo_engine.specs.Looks.{layout_in}
 use Rattle.thread_ends.specs.Ends.{both_fulls, both_sents}
-use Rattle.thread_law.specs.Ran.{HasRan, refused_by}
+use Rattle.thread_law.specs.Ran.{HasRan, marked_by}
 use Rattle.thread_setup.specs.declared.spare.Spare.{Spare}
-use Rattle.thread_engine.specs.Ended.{IsPublished}
-use Rattle.thread_engine.specs.Residues.{Counted, HasJoined, IsFor}
+use Rattle.thread_engine.specs.Ended.{IsAllPublished}
+use Rattle.thread_engine.specs.Residues.{Counted, HasJoined, IsWorkerFor}
 use Rattle.thread_engine.proofs.Outcomes.{cells_by, counted_by, its, live_few, ran_is, refused_is, shows, stands_by, table_is}
 
 module _ {K H : Type 0} (stands : H → ℤ → ℤ → Type 0) (r : Rules) (o : Options) (packets : List Packet) (is : r ≡ rules_in o) (lawful : IsLawful o) (small : All (λ p. p.amount < 2 ^ 32) packets)
-    (published : List Push) (spare : Spare K H) (given : IsPublished stands r o packets published spare) where
-  h : IsPublished stands (rules_in o) o packets published spare
-  h = subst (λ (z : Rules). IsPublished stands z o packets published spare) is given
+    (published : List Push) (spare : Spare K H) (given : IsAllPublished stands r o packets published spare) where
+  h : IsAllPublished stands (rules_in o) o packets published spare
+  h = subst (λ (z : Rules). IsAllPublished stands z o packets published spare) is given
 
   abbrev sketches : List (PrivateView H)
   sketches = spare.sketches.items
@@ -57,7 +57,7 @@ module _ {K H : Type 0} (stands : H → ℤ → ℤ → Type 0) (r : Rules) (o :
       subst (λ (z : Rules). StandsFor stands z (get_or sketches w s) (by w).updates (by w).messages (by w).refused) (sym is)
       (stands_by stands packets o lawful small sketches sents fulls h.told w s lt)
 
-  pub each_for : (w : ℕ) (s : PrivateView H) → w < length sketches → IsFor stands r spare.state.table.shape (get_or sketches w s)
+  pub each_for : (w : ℕ) (s : PrivateView H) → w < length sketches → IsWorkerFor stands r spare.state.table.shape (get_or sketches w s)
   each_for w s lt = record {
     counted = by w;
     stands_for = own w s lt;
@@ -73,7 +73,7 @@ module _ {K H : Type 0} (stands : H → ℤ → ℤ → Type 0) (r : Rules) (o :
       (table_is stands packets o lawful small sketches sents fulls h.told published h.taken h.fit h.few spare.state h.state old new was shape len all)
 
   module _ (bits : List (List Bool)) (bits_are : bits ≡ map (λ (s : PrivateView H). s.bits) sketches) (lengths : map (λ (b : List Bool). length b) bits ≡ map (λ (s : PrivateView H). s.room) sketches) where
-    pub fulls_are : (w : ℕ) → w < o.workers → o.full ≡ Leave → get_or fulls w 0 ≡ length (refused_by bits w)
+    pub fulls_are : (w : ℕ) → w < o.workers → o.full ≡ Leave → get_or fulls w 0 ≡ length (marked_by bits w)
     fulls_are w lt leave =
         (its stands packets o lawful small sketches sents fulls h.told w lt).fulls_are leave
         ∙ ap length (sym (refused_is stands packets o lawful small sketches sents fulls h.told published h.taken h.fit h.few spare.state h.state bits bits_are lengths w lt))

@@ -37,7 +37,7 @@ use Rattle.live_state.specs.declared.layout.Layout.{Layout}
 use Rattle.live_state.proofs.Live.{shows_all}
 use Rattle.octo_engine.specs.Looks.{layout_in}
 use Rattle.octo_engine.proofs.Outcomes.{told_len}
-use Rattle.thread_law.specs.Ran.{AreAnswers, HasRan, refused_by, settled_of}
+use Rattle.thread_law.specs.Ran.{AreAnswers, HasRan, marked_by, settled_of}
 use Rattle.thread_law.proofs.Fitting.{all_fit, fit_values, fold_of}
 use Rattle.thread_law.proofs.Sequentials.{settled_sequential}
 use Rattle.thread_engine.specs.Tellings.{HasToldAll, HaveToldAll}
@@ -150,7 +150,7 @@ module _ {H : Type 0} (stands : H → ℤ → ℤ → Type 0) (packets : List Pa
           ∙ get_or-map (λ (s : PrivateView H). s.room) sketches w (sketch_at w lt) 0 (omega (arith, lt, told.sketches_len)) ∙ (its w lt).room
 
       -- the bits of a worker are those of its refused updates
-      pub refused_is : (w : ℕ) → w < o.workers → refused_by bits w ≡ told.refused w
+      pub refused_is : (w : ℕ) → w < o.workers → marked_by bits w ≡ told.refused w
       refused_is w lt =
           let pushes = (its w lt).lawful.pushes in
           get_or-map marked bits w [] [] (omega (arith, lt, bits_len))

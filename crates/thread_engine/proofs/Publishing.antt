@@ -25,7 +25,7 @@ use Rattle.thread_run.specs.declared.parts.ReaderPart.{ReaderPart}
 use Rattle.thread_run.specs.declared.parts.RestPart.{RestPart}
 use Rattle.thread_run.specs.declared.parts.WorkerPart.{WorkerPart}
 use Rattle.thread_setup.specs.declared.spare.Spare.{Spare}
-use Rattle.thread_engine.specs.Ended.{HaveEnded, IsPublished}
+use Rattle.thread_engine.specs.Ended.{HaveEnded, IsAllPublished}
 use Rattle.thread_engine.specs.Tellings.{HaveToldAll}
 use Rattle.thread_engine.proofs.Ending.{all_told}
 use Rattle.thread_engine.proofs.Leaving.{answers_seen}
@@ -50,7 +50,7 @@ module _ {K H : Type 0} (stands : H → ℤ → ℤ → Type 0) (r : Rules) (o :
       → both_fulls new.passes.items ≡ map (λ (p : WorkerPart K H). p.pass.fulls) workers → AreTaken r writer.layout (both_sents new.passes.items) writer.published
       → Fit r writer.layout writer.published → (count : ℕ) → count ≡ length writer.published → count < most → new.state ≡ state_after r writer.layout writer.published
       → new.answers.items ≡ flat_map (λ (p : ReaderPart K H). p.answers.items) rest.readers.items → All (λ (p : ReaderPart K H). IsPrefix p.view.known writer.published) rest.readers.items
-      → new.refused ≡ spare.refused → new.pushes ≡ spare.pushes → new.live ≡ spare.live → IsPublished stands r o packets writer.published new
+      → new.refused ≡ spare.refused → new.pushes ≡ spare.pushes → new.live ≡ spare.live → IsAllPublished stands r o packets writer.published new
   all_published sketches sents fulls taken fit count counted below state answers before refused pushes live =
       let few : length writer.published < 2 ^ 64 = omega (arith, counted, below) in
       record {

@@ -43,7 +43,7 @@ module _ {K H : Type 0} where
 
 module _ {K H : Type 0} where
   -- all that was sent is published; the state, the answers and the sketches are those of it, and the lists have room
-  pub record IsPublished (stands : H → ℤ → ℤ → Type 0) (r : Rules) (o : Options) (packets : List Packet) (published : List Push)
+  pub record IsAllPublished (stands : H → ℤ → ℤ → Type 0) (r : Rules) (o : Options) (packets : List Packet) (published : List Push)
       (s : Spare K H) : Type 0 where
     pub told : HaveToldAll stands r o packets s.sketches.items (both_sents s.passes.items) (both_fulls s.passes.items)
     pub taken : AreTaken r (layout_in o) (both_sents s.passes.items) published

@@ -26,7 +26,7 @@ HasJoined r by n size old new = (cell : ℕ) → cell < size
     → value_at new cell ≡ fold r.join (value_at old cell) (map (λ w. residue_of r (by w) cell) (range_with_len 0 n))
 
 -- the sketch is that of a worker, for a table of this shape
-pub record IsFor {H : Type 0} (stands : H → ℤ → ℤ → Type 0) (r : Rules) (shape : Shape) (s : PrivateView H) : Type 0 where
+pub record IsWorkerFor {H : Type 0} (stands : H → ℤ → ℤ → Type 0) (r : Rules) (shape : Shape) (s : PrivateView H) : Type 0 where
   pub counted : Counted
   pub stands_for : StandsFor stands r s counted.updates counted.messages counted.refused
   pub cells : length s.held ≡ size_of shape

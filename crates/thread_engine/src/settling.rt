@@ -1,14 +1,14 @@
 //! What a run in threads comes to, once its parts have ended.
 ghost use Rattle.std.specs.Prelude.{◌≡◌, ◌<◌, ◌≤◌, ◌^◌, ℕ, List, [], All, length, map, IfOk, OnOk, slice_index_or};
-ghost use Rattle.aggregate.specs.Takens.{AreEnds, AreNamed, AreTaken, takens};
+ghost use Rattle.aggregate.specs.Takens.{ArePassesOf, AreNamed, AreTaken, takens};
 ghost use Rattle.hash_rows.specs.Lawful.{IsLawful};
 ghost use Rattle.hash_rows.specs.Sequential.{sequential_table};
 ghost use Rattle.hash_rows.specs.declared.options.Full.TheVariants.{Leave};
 ghost use Rattle.hash_rows.specs.declared.shape.Push.{Push};
 ghost use Rattle.push_lane.specs.Views.{LaneView};
 ghost use Rattle.thread_ends.specs.Ends.{AreOf, both_fulls, both_sents, both_takens, kept_in};
-ghost use Rattle.thread_law.specs.Ran.{HasRunTo, refused_by};
-ghost use Rattle.thread_engine.specs.Ended.{HaveEnded, IsPublished, KeepsRooms};
+ghost use Rattle.thread_law.specs.Ran.{HasRunTo, marked_by};
+ghost use Rattle.thread_engine.specs.Ended.{HaveEnded, IsAllPublished, KeepsRooms};
 ghost use Rattle.thread_engine.specs.Left.{AreDrained};
 
 use crate::lists::{fill_counts, fill_heavy, fill_refused};
@@ -93,7 +93,7 @@ fn publish_rest<K: Kind, R: Wait>(
     requires workers { length workers.items ≡ length lanes.now.items }
     requires ids { (i : ℕ) (l : LaneView) (p : _) → i < length lanes.now.items
         → (slice_index_or workers.items i p).pass.id ≡ (slice_index_or lanes.now.items i l).id }
-    requires ends { AreEnds lanes.now.items outs.items }
+    requires ends { ArePassesOf lanes.now.items outs.items }
     requires passes_room { (spare.old.passes.items ≡ []) × (length lanes.now.items ≤ spare.old.passes.room) }
     requires sketches_room { (spare.old.sketches.items ≡ []) × (length lanes.now.items ≤ spare.old.sketches.room) }
     requires named { AreNamed K.rules writer.old.layout (map (λ p. p.pass.sent) workers.items) }
@@ -129,11 +129,11 @@ fn conclude<K: Kind>(
     requires lawful { IsLawful options.now }
     requires sketch { options.now.sketch ≡ K.sketch }
     requires amounts { All (λ p. p.amount < 2 ^ 32) packets.now }
-    requires published { (published : List Push) × IsPublished K.stands K.rules options.now packets.now published spare }
+    requires published { (published : List Push) × IsAllPublished K.stands K.rules options.now packets.now published spare }
     ensures passes { result.1.items ≡ spare.passes.items }
     ensures fulls { (w : ℕ) → w < options.now.workers → options.now.full ≡ Leave
-        → slice_index_or (both_fulls spare.passes.items) w 0 ≡ length (refused_by result.0.lists.refused.items w) }
-    ensures ran { (published : List Push) → IsPublished K.stands K.rules options.now packets.now published spare
+        → slice_index_or (both_fulls spare.passes.items) w 0 ≡ length (marked_by result.0.lists.refused.items w) }
+    ensures ran { (published : List Push) → IsAllPublished K.stands K.rules options.now packets.now published spare
         → HasRunTo packets.now options.now (both_sents spare.passes.items) published result.0.lists }
     ensures table { result.0.table ≡ sequential_table K.rules options.now.shape packets.now }
 {

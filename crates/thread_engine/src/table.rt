@@ -6,7 +6,7 @@ ghost use Rattle.hash_rows.specs.declared.shape.Push.{Push};
 ghost use Rattle.hash_rows.specs.declared.shape.Update.{Update};
 ghost use Rattle.push_history.specs.Residue.{residue};
 ghost use Rattle.push_rule.specs.Stands.{StandsFor};
-ghost use Rattle.thread_engine.specs.Residues.{Counted, HasJoined, IsFor};
+ghost use Rattle.thread_engine.specs.Residues.{Counted, HasJoined, IsWorkerFor};
 
 use hash_rows::{Kind, Table};
 use push_rule::Private;
@@ -14,7 +14,7 @@ use push_rule::Private;
 /// Joins into each cell what each worker counted of it and did not tell.
 pub fn join_residues<K: Kind>(table: &mut Table<K>, sketches: &[Private<K>])
     requires size { length table.old.cells ≡ size_of table.old.shape }
-    requires each { (w : ℕ) (s : _) → w < length sketches.now → IsFor K.stands K.rules table.old.shape (slice_index_or sketches.now w s) }
+    requires each { (w : ℕ) (s : _) → w < length sketches.now → IsWorkerFor K.stands K.rules table.old.shape (slice_index_or sketches.now w s) }
     ensures shape { table.new.shape ≡ table.old.shape }
     ensures size { length table.new.cells ≡ size_of table.new.shape }
     ensures joined { (by : ℕ → Counted)
@@ -30,7 +30,7 @@ pub fn join_residues<K: Kind>(table: &mut Table<K>, sketches: &[Private<K>])
 // Joins into each cell what the worker counted of it and did not tell.
 fn join_residue<K: Kind>(table: &mut Table<K>, sketch: &Private<K>)
     requires size { length table.old.cells ≡ size_of table.old.shape }
-    requires one { IsFor K.stands K.rules table.old.shape sketch.now }
+    requires one { IsWorkerFor K.stands K.rules table.old.shape sketch.now }
     ensures shape { table.new.shape ≡ table.old.shape }
     ensures size { length table.new.cells ≡ size_of table.new.shape }
     ensures joined { (updates : List Update) (messages : List Push) (refused : List ℕ)

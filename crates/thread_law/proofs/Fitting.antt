@@ -21,7 +21,7 @@ use Rattle.fold_law.specs.Folds.{IsFoldOf}
 use Rattle.live_state.specs.Fold.{Fit, fits}
 use Rattle.live_state.specs.declared.layout.Layout.{Layout}
 use Rattle.push_history.proofs.Fitting.{Fits, FitsFor, own_updates_fit, rules_lawful, small_values, updates_there}
-use Rattle.thread_law.specs.Ran.{AreLawful, refused_by}
+use Rattle.thread_law.specs.Ran.{AreLawful, marked_by}
 
 -- each lawful message of a worker names it, and is for a cell of the table and a value of the kind
 sent_fits : (r : Rules) → AreLaws r → (size w T L : ℕ) (full : Full) (U : List Update) (S : List Push) (F : List ℕ) → All (Fits r size) U → LawfulPushes r w T L full U S F
@@ -78,7 +78,7 @@ all_fit packets o l messages refused lawful small same each shape workers w = el
 pub messages_fit : (packets : List Packet) (o : Options) (l : Layout) (messages : List (List Push)) (bits : List (List Bool)) → IsLawful o → All (λ p. p.amount < 2 ^ 32) packets
     → length messages ≡ o.workers → AreLawful packets o messages bits → l.shape ≡ o.shape → l.workers ≡ o.workers
     → (w : ℕ) → All (λ m. (m.worker ≡ w) × (fits (rules_in o) l m ≡ true)) (sent_by messages w)
-messages_fit packets o l messages bits = all_fit packets o l messages (refused_by bits)
+messages_fit packets o l messages bits = all_fit packets o l messages (marked_by bits)
 
 -- a list of messages that fit, which has those of each worker in order, is a fold of them
 pub fold_of : (r : Rules) (l : Layout) (messages : List (List Push)) (folded : List Push) → l.workers ≡ length messages → Fit r l folded → ((w : ℕ) → messages_of w folded ≡ sent_by messages w)

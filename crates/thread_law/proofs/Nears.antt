@@ -24,7 +24,7 @@ use Rattle.fold_law.proofs.Sums.{count_min}
 use Rattle.push_history.proofs.Fitting.{rules_lawful, terms_len, updates_there}
 use Rattle.push_history.proofs.PlaceLists.{all_grid, made_at}
 use Rattle.bracket.proofs.Plain.{plain, rules_are}
-use Rattle.thread_law.specs.Ran.{AreLawful, HasRan, ShowsNear, refused_by}
+use Rattle.thread_law.specs.Ran.{AreLawful, HasRan, ShowsNear, marked_by}
 use Rattle.thread_law.proofs.Told.{cells_shown, is_front}
 
 module _ (packets : List Packet) (o : Options) (lawful : IsLawful o) (is : o.sketch ≡ CountMin) (total : total_amount packets < 2 ^ 63) (messages : List (List Push)) where
@@ -37,7 +37,7 @@ module _ (packets : List Packet) (o : Options) (lawful : IsLawful o) (is : o.ske
     own_pushes : (w : ℕ) → w < length (terms_of packets o).updates → ArePushes count_min o.threshold (updates_of_worker (terms_of packets o).updates w) (sent_by messages w) (slice_index_or (map marked bits) w [])
     own_pushes w below =
         let lt : w < o.workers = omega (arith, below, terms_len packets o) in
-        pushes_are w (refused_by bits w) lt (subst (λ (U : List Update). ArePushes (rules_in o) o.threshold U (sent_by messages w) (refused_by bits w)) (sym (updates_there packets o w lt)) (each w lt).pushes)
+        pushes_are w (marked_by bits w) lt (subst (λ (U : List Update). ArePushes (rules_in o) o.threshold U (sent_by messages w) (marked_by bits w)) (sym (updates_there packets o w lt)) (each w lt).pushes)
 
     near_front : (front : List ℕ) → IsFront messages front → (key : FlowKey)
         → IsNear o.threshold (terms_of packets o).updates messages (map marked bits) front o.shape key (count_min_estimate o.shape (shown_cells count_min o.shape messages front) key)

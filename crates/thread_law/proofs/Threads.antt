@@ -21,7 +21,7 @@ use Rattle.push_history.specs.LawfulJournal.{AreOrdered, IsLawfulAnswer, IsThrea
 use Rattle.push_history.specs.LiveHeavy.{live_keys}
 use Rattle.push_history.specs.Shown.{shown_cells}
 use Rattle.fold_law.proofs.FoldLaw.{fold_lawful}
-use Rattle.thread_law.specs.Ran.{HasRan, IsAnswer, StandsAt}
+use Rattle.thread_law.specs.Ran.{HasRan, IsAnswer, IsAnswerNumber}
 use Rattle.fold_law.proofs.Fronts.{front_sum, no_further}
 use Rattle.push_history.proofs.PlaceLists.{all_grid, grid_at, map_grid}
 use Rattle.thread_law.proofs.Told.{cells_shown, is_front}
@@ -82,7 +82,7 @@ module _ (packets : List Packet) (o : Options) (messages : List (List Push)) (fo
     pub low : q < o.readers
     pub high : k < o.asks
     pub a : Answer
-    pub there : StandsAt o answers q k a
+    pub there : IsAnswerNumber o answers q k a
     pub is : parts_of a ≡ p
 
   part_at : (p : AnswerParts) → Contains (map parts_of answers) p → IsPart p
@@ -120,7 +120,7 @@ module _ (packets : List Packet) (o : Options) (messages : List (List Push)) (fo
         let py = reader_is s y in
         let reader : y.q ≡ x.q = sym py.0 ∙ sym same ∙ px.0 in
         let number : x.k ≤ y.k = omega (arith, px.1, py.1, le) in
-        further p s x y (h.answers_are.rising x.q x.k y.k x.a y.a x.low number y.high x.there (subst (λ (q : ℕ). StandsAt o answers q y.k y.a) reader y.there));
+        further p s x y (h.answers_are.rising x.q x.k y.k x.a y.a x.low number y.high x.there (subst (λ (q : ℕ). IsAnswerNumber o answers q y.k y.a) reader y.there));
     of_any = λ p s c d.
         let x = part_at p c in
         let y = part_at s d in

@@ -21,8 +21,8 @@ use Rattle.fold_law.specs.Folds.{IsFoldOf}
 use Rattle.push_history.specs.Looks.{IsLook}
 
 -- the refused updates of worker w are those whose bits are set
-abbrev pub refused_by : List (List Bool) → ℕ → List ℕ
-refused_by bits w = slice_index_or (map marked bits) w []
+abbrev pub marked_by : List (List Bool) → ℕ → List ℕ
+marked_by bits w = slice_index_or (map marked bits) w []
 
 -- answer number k of reader q was made from as many first messages of the fold as it says
 pub record IsAnswer (o : Options) (folded : List Push) (q k : ℕ) (a : Answer) : Type 0 where
@@ -32,21 +32,21 @@ pub record IsAnswer (o : Options) (folded : List Push) (q k : ℕ) (a : Answer) 
   pub look : IsLook (rules_in o) o (take a.folded folded) a
 
 -- answer number k of reader q, where the answers stand by reader, then by number
-abbrev pub StandsAt : Options → List Answer → ℕ → ℕ → Answer → Type 0
-StandsAt o answers q k a = slice_get answers (q * o.asks + k) ≡ Some a
+abbrev pub IsAnswerNumber : Options → List Answer → ℕ → ℕ → Answer → Type 0
+IsAnswerNumber o answers q k a = slice_get answers (q * o.asks + k) ≡ Some a
 
 -- so many asks of each reader were answered, each from a beginning of the fold, which never gets shorter within a reader
 pub record AreAnswers (o : Options) (folded : List Push) (answers : List Answer) : Type 0 where
   pub len : length answers ≡ o.readers * o.asks
-  pub each : (q k : ℕ) (a : Answer) → q < o.readers → k < o.asks → StandsAt o answers q k a → IsAnswer o folded q k a
-  pub rising : (q j k : ℕ) (a b : Answer) → q < o.readers → j ≤ k → k < o.asks → StandsAt o answers q j a → StandsAt o answers q k b
+  pub each : (q k : ℕ) (a : Answer) → q < o.readers → k < o.asks → IsAnswerNumber o answers q k a → IsAnswer o folded q k a
+  pub rising : (q j k : ℕ) (a b : Answer) → q < o.readers → j ≤ k → k < o.asks → IsAnswerNumber o answers q j a → IsAnswerNumber o answers q k b
       → a.folded ≤ b.folded
 
 -- the messages of each worker and its refused updates are lawful up to all its updates
 abbrev pub AreLawful : List Packet → Options → List (List Push) → List (List Bool) → Type 0
 AreLawful packets o messages bits =
     (w : ℕ) → w < o.workers
-    → LawfulPushes (rules_in o) w o.threshold o.lane o.full (updates_by_options packets o w) (sent_by messages w) (refused_by bits w)
+    → LawfulPushes (rules_in o) w o.threshold o.lane o.full (updates_by_options packets o w) (sent_by messages w) (marked_by bits w)
 
 -- the messages of each worker and its refused updates are lawful; the fold has these messages, in order, and no others;
 -- pushes are their numbers; the answers are those of beginnings of the fold; live keys and missed ones are those of all

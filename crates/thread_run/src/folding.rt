@@ -1,6 +1,6 @@
 //! What the aggregator does.
 ghost use Rattle.std.specs.Prelude.{◌≡◌, [], None, IsSome, OnOk, OnErr};
-ghost use Rattle.aggregate.specs.Takens.{AreEnds};
+ghost use Rattle.aggregate.specs.Takens.{ArePassesOf};
 ghost use Rattle.aggregate.specs.Sweeps.{HasTaken, KeepsPair};
 
 use aggregate::Aggregator;
@@ -22,8 +22,8 @@ pub fn fold_all<K: Kind, R: Wait, G: Gate>(
     ended: &AtomicU64,
     aggregator: &mut Aggregator<K>,
 ) -> Result<(), NoMemory>
-    requires ends { AreEnds lanes.now aggregator.old.outs }
-    ensures ends { AreEnds lanes.now aggregator.new.outs }
+    requires ends { ArePassesOf lanes.now aggregator.old.outs }
+    ensures ends { ArePassesOf lanes.now aggregator.new.outs }
     ensures same { KeepsPair aggregator.old aggregator.new }
     ensures none { OnOk result (aggregator.new.held ≡ None) }
     ensures published { OnOk result (aggregator.new.writer.pending ≡ []) }
@@ -61,9 +61,9 @@ fn drop_all<K: Kind, R: Wait>(
     ended: &AtomicU64,
     aggregator: &mut Aggregator<K>,
 )
-    requires ends { AreEnds lanes.now aggregator.old.outs }
+    requires ends { ArePassesOf lanes.now aggregator.old.outs }
     requires held { IsSome aggregator.old.held }
-    ensures ends { AreEnds lanes.now aggregator.new.outs }
+    ensures ends { ArePassesOf lanes.now aggregator.new.outs }
     ensures same { KeepsPair aggregator.old aggregator.new }
 {
     for _ in rt.forever() {

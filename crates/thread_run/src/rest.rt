@@ -1,7 +1,7 @@
 //! The aggregator and the readers, beside each other.
 ghost use Rattle.std.specs.Prelude.{◌≡◌, ◌<◌, ◌≤◌, ℕ, All, [], None, length, slice_index_or, OnOk};
 ghost use Rattle.std.specs.Thread.{IsSync};
-ghost use Rattle.aggregate.specs.Takens.{AreEnds};
+ghost use Rattle.aggregate.specs.Takens.{ArePassesOf};
 ghost use Rattle.aggregate.specs.Sweeps.{HasTaken, KeepsPair};
 ghost use Rattle.live_state.specs.Copies.{HasRoomFor};
 ghost use Rattle.thread_run.specs.Readers.{HasAsked, HaveAsked, HaveRoom};
@@ -66,7 +66,7 @@ fn run_fold<K: Kind, R: Wait, G: Gate>(
     ended: &AtomicU64,
     part: &mut FoldPart<K>,
 )
-    requires { AreEnds lanes.now part.old.aggregator.outs }
+    requires { ArePassesOf lanes.now part.old.aggregator.outs }
     ensures { HasFolded K.rules lanes.now part.old part.new }
 {
     part.failed = fold_all(rt, gate, lanes, ended, &mut part.aggregator).is_err();
@@ -84,7 +84,7 @@ pub fn fold_beside<K: Kind, R: Threads + Wait + Sync, G: Gate>(
 )
     requires few { length rest.old.readers.items ≤ 65536 }
     requires room { HaveRoom keys.now rest.old.readers.items }
-    requires ends { AreEnds lanes.now rest.old.fold.aggregator.outs }
+    requires ends { ArePassesOf lanes.now rest.old.fold.aggregator.outs }
     ensures { IsRestDone K.rules keys.now lanes.now rest.old rest.new }
 {
     beside(
@@ -94,7 +94,7 @@ pub fn fold_beside<K: Kind, R: Threads + Wait + Sync, G: Gate>(
             ensures { HaveAsked K.rules keys.entry.now parts.entry.now.items parts.exit.now.items }
         { run_all_readers(rt, keys, gate, parts) },
         &|_: usize, part: &mut FoldPart<K>|
-            requires { AreEnds lanes.now part.now.aggregator.outs }
+            requires { ArePassesOf lanes.now part.now.aggregator.outs }
             ensures { HasFolded K.rules lanes.entry.now part.entry.now part.exit.now }
         { run_fold(rt, gate, lanes, ended, part) },
         &mut rest.readers,

@@ -2,7 +2,7 @@
 ghost use Rattle.std.specs.Prelude.{◌≡◌, ◌≤◌, length};
 ghost use Rattle.std.specs.Thread.{IsSync};
 ghost use Rattle.hash_rows.specs.Shapes.{IsShape};
-ghost use Rattle.aggregate.specs.Takens.{AreEnds};
+ghost use Rattle.aggregate.specs.Takens.{ArePassesOf};
 ghost use Rattle.thread_run.specs.Readers.{HaveRoom};
 ghost use Rattle.thread_run.specs.Rest.{IsRestDone};
 ghost use Rattle.thread_run.specs.Workers.{AreReady, HaveWorked};
@@ -36,7 +36,7 @@ pub fn run_beside<K: Kind, R: Threads + Wait + Sync, G: Gate>(
     requires lanes { length lanes.now ≤ 65536 }
     requires len { length workers.old.items ≡ length lanes.now }
     requires ready { AreReady K.stands K.rules options.now packets.now lanes.now workers.old.items }
-    requires ends { AreEnds lanes.now rest.old.fold.aggregator.outs }
+    requires ends { ArePassesOf lanes.now rest.old.fold.aggregator.outs }
     requires readers { length rest.old.readers.items ≤ 65536 }
     requires room { HaveRoom keys.now rest.old.readers.items }
     ensures worked { HaveWorked K.stands K.rules options.now packets.now lanes.now workers.old.items workers.new.items }
@@ -48,7 +48,7 @@ pub fn run_beside<K: Kind, R: Threads + Wait + Sync, G: Gate>(
         rt,
         &|_: usize, rest: &mut RestPart<K>|
             requires { IsSync R.row × (length rest.now.readers.items ≤ 65536) × HaveRoom keys.now rest.now.readers.items
-                × AreEnds lanes.now rest.now.fold.aggregator.outs }
+                × ArePassesOf lanes.now rest.now.fold.aggregator.outs }
             ensures { IsRestDone K.rules keys.entry.now lanes.entry.now rest.entry.now rest.exit.now }
         { fold_beside(rt, keys, gate, lanes, ended, rest) },
         &|_: usize, workers: &mut Vec<WorkerPart<K>>|

@@ -3,7 +3,7 @@ use Rattle.std.proofs.Common.{◌≡◌, ◌<◌, ℕ, ℤ, ◌+◌, List, [], �
 use Rattle.std.specs.Prelude.{pos, replicate}
 use Rattle.std.proofs.lemmas.List.{get_or_append_left, get_or_push, length-replicate, length_push, map-append}
 use Rattle.std.proofs.lemmas.List.Elements.{All-nil, All-push}
-use Rattle.aggregate.specs.Takens.{AreEnds}
+use Rattle.aggregate.specs.Takens.{ArePassesOf}
 use Rattle.hash_rows.specs.declared.answer.Answer.{Answer}
 use Rattle.hash_rows.specs.declared.options.Options.{Options}
 use Rattle.hash_rows.specs.declared.shape.Packet.{Packet}
@@ -26,7 +26,7 @@ use Rattle.thread_setup.specs.Answers.{AreLists, AreNew}
 use Rattle.thread_setup.specs.declared.hands.Hand.{Hand}
 use Rattle.thread_setup.specs.declared.hands.Hands.{Hands}
 use Rattle.thread_setup.specs.Hands.{AreHands, IsHand}
-use Rattle.thread_setup.specs.Setups.{AreReaders, IsFirst, IsReader}
+use Rattle.thread_setup.specs.Setups.{AreReaders, IsFreshView, IsReader}
 
 pub all_more : {A : Type 0} (P : A → Type 0) (xs new : List A) (x : A) → new ≡ xs ++ x ∷ [] → All P xs → P x → All P new
 all_more {A} P xs new x is all here = subst (All P) (sym is) (All-push P xs x all here)
@@ -42,8 +42,8 @@ all_before {A} P all xs x is h =
 pub len_more : {A : Type 0} (xs new : List A) (x : A) (n : ℕ) → length xs ≡ n → new ≡ xs ++ x ∷ [] → length new ≡ n + 1
 len_more xs new x n len is = ap length is ∙ length_push xs x ∙ ap (λ k. k + 1) len
 
-ends_more : (lanes lanes' : List LaneView) (outs outs' : List OutView) (l : LaneView) (e : OutView) → lanes' ≡ lanes ++ l ∷ [] → outs' ≡ outs ++ e ∷ [] → AreEnds lanes outs
-    → e.id ≡ l.id → AreEnds lanes' outs'
+ends_more : (lanes lanes' : List LaneView) (outs outs' : List OutView) (l : LaneView) (e : OutView) → lanes' ≡ lanes ++ l ∷ [] → outs' ≡ outs ++ e ∷ [] → ArePassesOf lanes outs
+    → e.id ≡ l.id → ArePassesOf lanes' outs'
 ends_more lanes lanes' outs outs' l e is_l is_e ends here =
     ap (map (λ (x : OutView). x.id)) is_e
     ∙ map-append (λ (x : OutView). x.id) outs (e ∷ [])
@@ -140,7 +140,7 @@ lists_before o q all xs a h is at =
     )
 
 module _ {K H : Type 0} where
-  pub is_reader : (o : Options) (w : WriterView) (q : ℕ) (p : ReaderPart K H) → IsFirst w p.view → AreNew o q o.asks p.answers.items → IsReader o w q p
+  pub is_reader : (o : Options) (w : WriterView) (q : ℕ) (p : ReaderPart K H) → IsFreshView w p.view → AreNew o q o.asks p.answers.items → IsReader o w q p
   is_reader o w q p first new = record {
     pair = first.pair;
     known = first.known;
@@ -159,5 +159,5 @@ module _ {K H : Type 0} where
   }
 
 -- the views of a new pair
-pub all_first : (w : WriterView) (views : List ReaderView) → All (λ v. (v.book ≡ w.book) × (v.layout ≡ w.layout) × (v.known ≡ []) × (v.told ≡ [])) views → All (IsFirst w) views
+pub all_first : (w : WriterView) (views : List ReaderView) → All (λ v. (v.book ≡ w.book) × (v.layout ≡ w.layout) × (v.known ≡ []) × (v.told ≡ [])) views → All (IsFreshView w) views
 all_first w views h k d lt = let v = h k d lt in record { pair = (v.0, v.1); known = v.2 }

@@ -1,6 +1,6 @@
 -- The lanes, and what has their ends.
 use Rattle.std.specs.Prelude.{◌≡◌, ◌<◌, ℕ, ℤ, [], List, All, length, slice_index_or}
-use Rattle.aggregate.specs.Takens.{AreEnds}
+use Rattle.aggregate.specs.Takens.{ArePassesOf}
 use Rattle.hash_rows.specs.declared.options.Options.{Options}
 use Rattle.hash_rows.specs.declared.shape.Packet.{Packet}
 use Rattle.hash_rows.specs.Rules.{Rules}
@@ -29,5 +29,5 @@ module _ {K H : Type 0} where
     pub shares : (w : ℕ) (p : WorkerPart K H) → w < n
         → (slice_index_or h.workers.items w p).share ≡ share_of_worker o.share o.workers packets w
     pub thresholds : (w : ℕ) (p : WorkerPart K H) → w < n → (slice_index_or h.workers.items w p).sketch.threshold ≡ o.threshold
-    pub ends : AreEnds h.lanes.items h.outs.items
+    pub ends : ArePassesOf h.lanes.items h.outs.items
     pub untaken : All (λ e. e.taken ≡ []) h.outs.items

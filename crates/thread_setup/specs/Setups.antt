@@ -1,7 +1,7 @@
 -- What a run in threads begins with.
 use Rattle.std.specs.Prelude.{◌≡◌, ◌<◌, ◌*◌, ℕ, ℤ, [], List, All, None, false, length, slice_index_or}
 use Rattle.aggregate.specs.Sweeps.{HasTaken}
-use Rattle.aggregate.specs.Takens.{AreEnds}
+use Rattle.aggregate.specs.Takens.{ArePassesOf}
 use Rattle.hash_rows.specs.declared.answer.Answer.{Answer}
 use Rattle.hash_rows.specs.declared.options.Options.{Options}
 use Rattle.hash_rows.specs.declared.shape.Packet.{Packet}
@@ -20,7 +20,7 @@ use Rattle.thread_setup.specs.declared.setup.Setup.{Setup}
 use Rattle.thread_setup.specs.declared.spare.Spare.{Spare}
 
 -- the view is one of the pair and knows nothing
-pub record IsFirst (writer : WriterView) (v : ReaderView) : Type 0 where
+pub record IsFreshView (writer : WriterView) (v : ReaderView) : Type 0 where
   pub pair : (v.book ≡ writer.book) × (v.layout ≡ writer.layout)
   pub known : v.known ≡ []
 
@@ -59,7 +59,7 @@ module _ {K H : Type 0} where
     pub shares : (w : ℕ) (p : WorkerPart K H) → w < o.workers
         → (slice_index_or s.workers.items w p).share ≡ share_of_worker o.share o.workers packets w
     pub thresholds : (w : ℕ) (p : WorkerPart K H) → w < o.workers → (slice_index_or s.workers.items w p).sketch.threshold ≡ o.threshold
-    pub ends : AreEnds s.lanes.items s.rest.fold.aggregator.outs
+    pub ends : ArePassesOf s.lanes.items s.rest.fold.aggregator.outs
     pub layout : s.rest.fold.aggregator.writer.layout ≡ layout_in o
     pub begun : HasTaken r s.rest.fold.aggregator
     pub fresh : (s.rest.fold.aggregator.writer.published ≡ []) × (s.rest.fold.aggregator.held ≡ None) × (s.rest.fold.failed ≡ false)

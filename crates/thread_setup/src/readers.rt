@@ -3,7 +3,7 @@ ghost use Rattle.std.specs.Prelude.{◌≡◌, ◌<◌, ◌++◌, [], ◌∷◌,
 ghost use Rattle.live_view.specs.Views.{WriterView};
 ghost use Rattle.push_history.specs.Journal.{keys_of};
 ghost use Rattle.thread_setup.specs.Answers.{AreLists, AreNew};
-ghost use Rattle.thread_setup.specs.Setups.{AreReaders, IsFirst};
+ghost use Rattle.thread_setup.specs.Setups.{AreReaders, IsFreshView};
 
 use flow_base::NoMemory;
 use hash_rows::{Answer, Answers, Kind, Options};
@@ -56,7 +56,7 @@ pub fn readers_of<K: Kind>(
     requires lists { AreLists options.now options.now.readers lists.items }
     requires room { (room.items ≡ []) × (room.room ≡ options.now.readers) }
     ensures len { length result.items ≡ options.now.readers }
-    ensures readers { (w : WriterView) → All (IsFirst w) views.items → AreReaders options.now w options.now.readers result.items }
+    ensures readers { (w : WriterView) → All (IsFreshView w) views.items → AreReaders options.now w options.now.readers result.items }
 {
     let mut views = views;
     let mut lists = lists;

@@ -2,7 +2,7 @@
 ghost use Rattle.std.specs.Prelude.{◌≡◌, ◌<◌, ◌≤◌, ◌^◌, [], All, length, IfOk, OnOk};
 ghost use Rattle.hash_rows.specs.Lawful.{IsLawful};
 ghost use Rattle.octo_engine.specs.Looks.{layout_in};
-ghost use Rattle.thread_setup.specs.Setups.{IsFirst, IsSetUp};
+ghost use Rattle.thread_setup.specs.Setups.{IsFreshView, IsSetUp};
 
 use crate::hands::{Lanes, hands_of};
 use crate::readers::{answers_of, readers_of};
@@ -75,7 +75,7 @@ fn pair_of<K: Kind, R: Wait>(
     ensures lists { IfOk result (λ t. (t.0.published ≡ []) × (t.0.pending ≡ [])) }
     ensures layout { IfOk result (λ t. t.0.layout ≡ layout_in options.now) }
     ensures count { IfOk result (λ t. length t.1.items ≡ options.now.readers) }
-    ensures views { IfOk result (λ t. All (IsFirst t.0) t.1.items) }
+    ensures views { IfOk result (λ t. All (IsFreshView t.0) t.1.items) }
 {
     let _least = options.least;
     let (writer, views) = make_views(

@@ -15,12 +15,12 @@ abbrev pub FitsIn : Rules → Shape → Push → Type 0
 FitsIn r shape m = (m.cell < size_of shape) × (r.is_value m.amount ≡ true)
 
 -- a message of worker w, for a cell of the table, that tells a value of the kind
-abbrev pub IsFor : Rules → Shape → ℕ → Push → Type 0
-IsFor r shape w m = (m.worker ≡ w) × (m.cell < size_of shape) × (r.is_value m.amount ≡ true)
+abbrev pub IsMessageFor : Rules → Shape → ℕ → Push → Type 0
+IsMessageFor r shape w m = (m.worker ≡ w) × (m.cell < size_of shape) × (r.is_value m.amount ≡ true)
 
 -- so is each message of each worker
 abbrev pub AreSent : Rules → Shape → List (List Push) → Type 0
-AreSent r shape messages = (w : ℕ) → w < length messages → All (IsFor r shape w) (sent_by messages w)
+AreSent r shape messages = (w : ℕ) → w < length messages → All (IsMessageFor r shape w) (sent_by messages w)
 
 -- each cell is the join of the amounts for it
 abbrev pub IsTableOf : Rules → TableView → List Push → Type 0

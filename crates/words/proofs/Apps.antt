@@ -17,11 +17,11 @@ use Rattle.clap.specs.declared.error.kind.ErrorKind.TheVariants.{OutOfMemory}
 use Rattle.clap.specs.declared.parser.matches.ArgMatches.{ArgMatches}
 use Rattle.clap.proofs.WalkLemmas.{first_value-rows, one_text-rows}
 use Rattle.clap.proofs.FaultLemmas.{leaf_fault}
-use Rattle.words.specs.Matches.{HasLine, IsKept, flag_text}
+use Rattle.words.specs.Matches.{HasLine, IsFlagKept, flag_text}
 use Rattle.words.specs.Names.{is_flag}
 use Rattle.words.specs.Forms.{is_form}
-use Rattle.words.specs.Grammar.{IsNoLine, kind_by, AreOnce, AreParts, IsLine, IsPart, Name, Part, Text, is_in, name_of, value_in}
-use Rattle.words.specs.Rules.{app_of_names, rule_at, rule_by, rules, told_by, top}
+use Rattle.words.specs.Grammar.{IsNoLine, kind_by, AreOnce, AreParts, IsCommandLine, IsPart, Name, Part, Text, is_in, name_of, value_in}
+use Rattle.words.specs.Rules.{app_of_names, rule_at, rule_by, rules, rule_told, top}
 use Rattle.words.proofs.Texts.{and_both, bool_cases, both_pass, bytes_same, not_true, or_neither, same_bytes}
 use Rattle.clap.specs.declared.builder.value_parser.Reading.TheVariants.{AsWritten}
 use Rattle.clap.specs.declared.parser.matches.ValueSource.TheVariants.{DefaultValue}
@@ -79,14 +79,14 @@ none_free (p ∷ ps) = (refl, none_free ps)
 
 -- ---- the command that is built
 
-filled_rules : (names : List Name) → filled_from 1 (map told_by names) ≡ rules names
+filled_rules : (names : List Name) → filled_from 1 (map rule_told names) ≡ rules names
 filled_rules [] = refl
 filled_rules (n ∷ ns) = ap (λ (rs : List Rule). rule_by n ∷ rs) (filled_rules ns)
 
 built_app : (names : List Name) → built (app_of_names names) ≡ record { top = top names; subs = [] }
 built_app names = ap (λ (rs : List Rule). record { top = record (top []) { rules = rs }; subs = [] }) (filled_rules names)
 
-told_simple : (names : List Name) → list_all (λ (a : Rule). a.is_simple) (map told_by names) ≡ true
+told_simple : (names : List Name) → list_all (λ (a : Rule). a.is_simple) (map rule_told names) ≡ true
 told_simple [] = refl
 told_simple (n ∷ ns) = told_simple ns
 
@@ -144,7 +144,7 @@ fault_is names words = ap (λ (a : App). built_fault a nothing_held words) (buil
 
 -- the words of a parse that no fault stops are a line, and the parse has a row for each part
 pub line_of_parse : (names : List Name) (words : List Text) → list_all is_form words ≡ true → fault_of (app_of_names names) words ≡ []
-    → (parts : List Part) × IsLine names parts words
+    → (parts : List Part) × IsCommandLine names parts words
 line_of_parse names words forms e =
     let ws = words in
     let level = sym (fault_is names words) ∙ e in
@@ -159,7 +159,7 @@ pub record Parses (names : List Name) (words : List Text) (parts : List Part) : 
   pub matches : matches_of (app_of_names names) words ≡ fold with_default (map part_row parts) (rules names)
 
 -- a line is parsed without fault, and leaves a row for each part
-pub parse_of_line : (names : List Name) (words : List Text) (parts : List Part) → are_names names ≡ true → IsLine names parts words → Parses names words parts
+pub parse_of_line : (names : List Name) (words : List Text) (parts : List Part) → are_names names ≡ true → IsCommandLine names parts words → Parses names words parts
 parse_of_line names words parts all line =
     let ws = words in
     let got = complete names parts all nothing_held ws line.spelled line.known refl (of_once [] parts (none_free parts) line.once) in
@@ -404,20 +404,20 @@ absent_parts names t (p ∷ ps) known e = go (bytes_eq p.name t) refl (absent_pa
 
 -- what is kept of a flag, in a command that has it or hasn't
 pub flag_is_kept : (names : List Name) (t : Text) (parts : List Part) → list_all fits_kind names ≡ true → AreParts names parts → is_flag t ≡ true
-    → IsKept (is_in t parts) (one_of t (fold with_default (map part_row parts) (rules names)))
+    → IsFlagKept (is_in t parts) (one_of t (fold with_default (map part_row parts) (rules names)))
 flag_is_kept names t parts fit known flag = go (kind_by names t) refl
   where
     kept : List Row
     kept = fold with_default (map part_row parts) (rules names)
 
-    go : (kind : Option Bool) → kind_by names t ≡ kind → IsKept (is_in t parts) (one_of t kept)
+    go : (kind : Option Bool) → kind_by names t ≡ kind → IsFlagKept (is_in t parts) (one_of t kept)
     go None is =
         let none = absent_parts names t parts known is in
         let nothing : one_of t kept ≡ None = ap (option_and_then row_text) (fold_option t names (map part_row parts) (absent_only t names is) ∙ none.0) in
-        subst (IsKept (is_in t parts)) (sym nothing) none.1
+        subst (IsFlagKept (is_in t parts)) (sym nothing) none.1
     go (Some b) is =
         let valueless = is ∙ ap (λ (v : Bool). Some v) (flag_kind t names b fit flag is) in
-        subst (IsKept (is_in t parts)) (sym (flag_of_line names t parts known valueless)) refl
+        subst (IsFlagKept (is_in t parts)) (sym (flag_of_line names t parts known valueless)) refl
 
 -- ---- the parse
 
@@ -431,7 +431,7 @@ ok_is_line names words m named fitted forms none rows = record {
       let all = rows ∙ (parse_of_line names words parts named line).matches in
       record {
         values = λ t is. first_value-rows (found_of m) t ∙ ap (first_of t) all ∙ value_of_line names t parts fitted line.known is;
-        flags = λ t is. subst (IsKept (is_in t parts)) (sym (one_text-rows (found_of m) t ∙ ap (one_of t) all)) (flag_is_kept names t parts fitted line.known is);
+        flags = λ t is. subst (IsFlagKept (is_in t parts)) (sym (one_text-rows (found_of m) t ∙ ap (one_of t) all)) (flag_is_kept names t parts fitted line.known is);
       };
 }
 

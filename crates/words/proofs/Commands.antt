@@ -9,10 +9,10 @@ use Rattle.hash_rows.specs.declared.options.Mode.TheVariants.{Rounds}
 use Rattle.hash_rows.specs.declared.options.Options.{Options}
 use Rattle.hash_rows.specs.declared.options.Sketch.TheVariants.{CountMin, CountSketch}
 use Rattle.words.specs.Grammar.{AreParts, Name, Part, Text, kind_by, value_in}
-use Rattle.words.specs.Matches.{IsKept}
+use Rattle.words.specs.Matches.{IsFlagKept}
 use Rattle.words.specs.Names.{names_of}
 use Rattle.words.specs.Options.{Gives, GivesEpochs, GivesLoad, GivesPrefix, GivesRun, IsLawfulCommand}
-use Rattle.words.specs.Values.{NeedsNumber, ReadsChoice, ReadsNumber}
+use Rattle.words.specs.Values.{NeedsNumber, ReadsChoice, IsNumberOf}
 use Rattle.words.specs.declared.command.Command.{Command}
 use Rattle.words.specs.declared.command.Command.TheVariants.{Run, Load, Prefix, Epochs, Audit}
 use Rattle.words.specs.declared.names.Verb.TheVariants.{Prefix as PrefixVerb, Epochs as EpochsVerb}
@@ -84,7 +84,7 @@ pub audit_once : (words rest : List Text) (c : Command) → words ≡ codes "aud
 audit_once words rest c e is d g = is.0 ∙ sym (audit_gives words rest d e g).0
 
 -- what a flag is read as, from what is kept of it
-pub kept_flag : (stands : Bool) (kept : Option Text) (read : Bool) → IsKept stands kept → (kept ≡ None → read ≡ false) → (kept ≡ Some (codes "true") → read ≡ true)
+pub kept_flag : (stands : Bool) (kept : Option Text) (read : Bool) → IsFlagKept stands kept → (kept ≡ None → read ≡ false) → (kept ≡ Some (codes "true") → read ≡ true)
     → (kept ≡ Some (codes "false") → read ≡ false) → read ≡ stands
 kept_flag stands None read is none there gone = none (λ i. None) ∙ sym is
 kept_flag true (Some text) read is none there gone = there (ap (λ (t : Text). Some t) is)
@@ -138,8 +138,8 @@ epochs_lawful rest c r =
       lawful = lawful CountSketch None parts r.2 (λ e. refl) gives;
       sketch = subst (λ (v : Option Text). ReadsChoice sketch_text CountSketch v r.2.sketch) (unsaid (codes "sketch") refl) gives.sketch;
       watch = gives.watch;
-      readers = subst (λ (v : Option Text). ReadsNumber 0 4 0 v r.2.readers) (unsaid (codes "readers") refl) gives.readers;
-      asks = subst (λ (v : Option Text). ReadsNumber 0 1024 0 v r.2.asks) (unsaid (codes "asks") refl) gives.asks;
+      readers = subst (λ (v : Option Text). IsNumberOf 0 4 0 v r.2.readers) (unsaid (codes "readers") refl) gives.readers;
+      asks = subst (λ (v : Option Text). IsNumberOf 0 1024 0 v r.2.asks) (unsaid (codes "asks") refl) gives.asks;
       some_packets = size.0;
       packets = size.1;
       some_change = least.0;

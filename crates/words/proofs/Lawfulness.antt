@@ -15,10 +15,10 @@ use Rattle.prefixes.specs.Networks.{AreWatched, IsNetwork}
 use Rattle.prefixes.specs.Texts.{prefix_text}
 use Rattle.words.specs.Grammar.{Part, Text, value_in}
 use Rattle.words.specs.Options.{GivesOptions, GivesShape, most_rows, suits, usual_rows, usual_threshold}
-use Rattle.words.specs.Values.{ReadsInteger, ReadsKeys, ReadsList, ReadsNetworks, ReadsNumber}
+use Rattle.words.specs.Values.{ReadsInteger, ReadsKeys, ReadsList, ReadsNetworks, IsNumberOf}
 
 -- a number that is read is in range
-pub in_range : (low high d : ℕ) (v : Option Text) (n : ℕ) → low ≤ d → d ≤ high → ReadsNumber low high d v n → (low ≤ n) × (n ≤ high)
+pub in_range : (low high d : ℕ) (v : Option Text) (n : ℕ) → low ≤ d → d ≤ high → IsNumberOf low high d v n → (low ≤ n) × (n ≤ high)
 in_range low high d None n above below r = (omega arith, omega arith)
 in_range low high d (Some t) n above below r = (r.1, r.2)
 
@@ -26,12 +26,12 @@ least_in_range : (low high d : ℕ) (v : Option Text) (z : ℤ) → low ≤ d �
 least_in_range low high d None z above below r = (omega (arith, ints, r), omega (arith, ints, r))
 least_in_range low high d (Some t) z above below r = (omega (arith, ints, r.1, r.2), omega (arith, ints, r.1, r.2))
 
-rows_in_range : (k : Sketch) (v : Option Text) (n : ℕ) → ReadsNumber 1 (most_rows k) (usual_rows k) v n → (1 ≤ n) × (n ≤ most_rows k) × (most_rows k ≤ 8)
+rows_in_range : (k : Sketch) (v : Option Text) (n : ℕ) → IsNumberOf 1 (most_rows k) (usual_rows k) v n → (1 ≤ n) × (n ≤ most_rows k) × (most_rows k ≤ 8)
 rows_in_range CountMin v n r = let b = in_range 1 8 4 v n (omega arith) (omega arith) r in (b.0, b.1, omega arith)
 rows_in_range CountSketch v n r = let b = in_range 1 8 4 v n (omega arith) (omega arith) r in (b.0, b.1, omega arith)
 rows_in_range LogLog v n r = let b = in_range 1 1 1 v n (omega arith) (omega arith) r in (b.0, b.1, omega arith)
 
-threshold_in_range : (k : Sketch) (v : Option Text) (n : ℕ) → ReadsNumber 1 1099511627776 (usual_threshold k) v n → (1 ≤ n) × (n ≤ 1099511627776)
+threshold_in_range : (k : Sketch) (v : Option Text) (n : ℕ) → IsNumberOf 1 1099511627776 (usual_threshold k) v n → (1 ≤ n) × (n ≤ 1099511627776)
 threshold_in_range CountMin v n r = in_range 1 1099511627776 16 v n (omega arith) (omega arith) r
 threshold_in_range CountSketch v n r = in_range 1 1099511627776 16 v n (omega arith) (omega arith) r
 threshold_in_range LogLog v n r = in_range 1 1099511627776 1 v n (omega arith) (omega arith) r

@@ -25,11 +25,11 @@ use Rattle.prefixes.specs.Texts.{prefix_text}
 use Rattle.prefixes.proofs.Texts.{Lacks-prefix_text, one_network}
 use Rattle.words.specs.Grammar.{Part, Text, value_in}
 use Rattle.words.specs.Options.{GivesOptions, GivesShape, most_rows, usual_rows, usual_threshold}
-use Rattle.words.specs.Values.{NeedsNumber, ReadsChoice, ReadsInteger, ReadsKeys, ReadsNetworks, ReadsNumber}
+use Rattle.words.specs.Values.{NeedsNumber, ReadsChoice, ReadsInteger, ReadsKeys, ReadsNetworks, IsNumberOf}
 use Rattle.words.proofs.WatchedLists.{same_list}
 
 -- a value gives at most one number
-pub same_number : (low high d : ℕ) (v : Option Text) (m n : ℕ) → high < 2 ^ 64 → ReadsNumber low high d v m → ReadsNumber low high d v n → m ≡ n
+pub same_number : (low high d : ℕ) (v : Option Text) (m n : ℕ) → high < 2 ^ 64 → IsNumberOf low high d v m → IsNumberOf low high d v n → m ≡ n
 same_number low high d None m n fits p q = p ∙ sym q
 same_number low high d (Some t) m n fits p q = decimal_injective m n (omega arith) (omega arith) (sym p.0 ∙ q.0)
 
@@ -115,7 +115,7 @@ same_options usual keys parts o d g h =
     let share = same_choice share_text Turn _ o.share d.share same_share g.share h.share in
     let workers = same_number 1 16 4 _ o.workers d.workers (omega arith) g.workers h.workers in
     let threshold = same_number 1 1099511627776 (usual_threshold o.sketch) _ o.threshold d.threshold (omega arith) g.threshold
-    (back (λ (s : Sketch). ReadsNumber 1 1099511627776 (usual_threshold s) (value_in (codes "threshold") parts) d.threshold) h.threshold) in
+    (back (λ (s : Sketch). IsNumberOf 1 1099511627776 (usual_threshold s) (value_in (codes "threshold") parts) d.threshold) h.threshold) in
     let lane = same_number 1 4096 64 _ o.lane d.lane (omega arith) g.lane h.lane in
     let batch = same_number 1 1024 32 _ o.batch d.batch (omega arith) g.batch h.batch in
     let round = same_number 1 65536 64 _ o.round d.round (omega arith) g.round h.round in

@@ -2,7 +2,7 @@
 use Rattle.std.specs.Prelude.{◌≡◌, Bool, true, false, List, Option, Some, None, codes}
 use Rattle.clap.specs.Words.{found_of, first_value, one_text}
 use Rattle.clap.specs.declared.parser.matches.ArgMatches.{ArgMatches}
-use Rattle.words.specs.Grammar.{IsLine, Name, Part, Text, is_in, value_in}
+use Rattle.words.specs.Grammar.{IsCommandLine, Name, Part, Text, is_in, value_in}
 use Rattle.words.specs.Names.{is_flag}
 
 -- what is kept of a flag
@@ -11,16 +11,16 @@ flag_text true = codes "true"
 flag_text false = codes "false"
 
 -- the flag stands or not, and this is kept of it; nothing, where the command has no such flag
-abbrev pub IsKept : Bool → Option Text → Type 0
-IsKept stands None = stands ≡ false
-IsKept stands (Some text) = text ≡ flag_text stands
+abbrev pub IsFlagKept : Bool → Option Text → Type 0
+IsFlagKept stands None = stands ≡ false
+IsFlagKept stands (Some text) = text ≡ flag_text stands
 
 -- the matches are those of the parts
 pub record AreMatches (parts : List Part) (m : ArgMatches) : Type 0 where
   pub values : (t : Text) → is_flag t ≡ false → first_value (found_of m) t ≡ value_in t parts
-  pub flags : (t : Text) → is_flag t ≡ true → IsKept (is_in t parts) (one_text (found_of m) t)
+  pub flags : (t : Text) → is_flag t ≡ true → IsFlagKept (is_in t parts) (one_text (found_of m) t)
 
 -- the words are a line of the grammar, and these are the matches however they are cut
 pub record HasLine (names : List Name) (words : List Text) (m : ArgMatches) : Type 0 where
-  pub line : (parts : List Part) × IsLine names parts words
-  pub matches : (parts : List Part) → IsLine names parts words → AreMatches parts m
+  pub line : (parts : List Part) × IsCommandLine names parts words
+  pub matches : (parts : List Part) → IsCommandLine names parts words → AreMatches parts m

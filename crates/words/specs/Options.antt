@@ -13,10 +13,10 @@ use Rattle.hash_rows.specs.declared.options.Share.TheVariants.{Turn}
 use Rattle.hash_rows.specs.declared.options.Sketch.{Sketch}
 use Rattle.hash_rows.specs.declared.options.Sketch.TheVariants.{CountMin, CountSketch, LogLog}
 use Rattle.hash_rows.specs.declared.shape.Shape.{Shape}
-use Rattle.words.specs.Grammar.{IsLine, Part, Text, is_in, value_in}
+use Rattle.words.specs.Grammar.{IsCommandLine, Part, Text, is_in, value_in}
 use Rattle.words.specs.Names.{names_of}
 use Rattle.words.specs.declared.names.Verb.TheVariants.{Run as RunVerb, Load as LoadVerb, Prefix as PrefixVerb, Epochs as EpochsVerb}
-use Rattle.words.specs.Values.{NeedsNumber, ReadsChoice, ReadsInteger, ReadsKeys, ReadsNetworks, ReadsNumber}
+use Rattle.words.specs.Values.{NeedsNumber, ReadsChoice, ReadsInteger, ReadsKeys, ReadsNetworks, IsNumberOf}
 use Rattle.words.specs.declared.command.Command.{Command}
 use Rattle.words.specs.declared.command.Command.TheVariants.{Run, Load, Prefix, Epochs, Audit}
 
@@ -46,8 +46,8 @@ suits _ parts = true
 
 -- the parts give the shape of this sketch
 pub record GivesShape (parts : List Part) (sketch : Sketch) (shape : Shape) : Type 0 where
-  pub rows : ReadsNumber 1 (most_rows sketch) (usual_rows sketch) (value_in (codes "rows") parts) shape.rows
-  pub columns : ReadsNumber 1 65536 2048 (value_in (codes "columns") parts) shape.columns
+  pub rows : IsNumberOf 1 (most_rows sketch) (usual_rows sketch) (value_in (codes "rows") parts) shape.rows
+  pub columns : IsNumberOf 1 65536 2048 (value_in (codes "columns") parts) shape.columns
   pub registers : HasRegisters sketch shape.columns
 
 -- the parts give these options: the usual sketch where none is chosen, and the keys that the text lists, with room for the most
@@ -58,18 +58,18 @@ pub record GivesOptions (usual : Sketch) (keys : Option Text) (parts : List Part
   pub shape : GivesShape parts o.sketch o.shape
   pub amount : ReadsChoice amount_text Packets (value_in (codes "amount") parts) o.amount
   pub share : ReadsChoice share_text Turn (value_in (codes "share") parts) o.share
-  pub workers : ReadsNumber 1 16 4 (value_in (codes "workers") parts) o.workers
-  pub threshold : ReadsNumber 1 1099511627776 (usual_threshold o.sketch) (value_in (codes "threshold") parts) o.threshold
-  pub lane : ReadsNumber 1 4096 64 (value_in (codes "lane") parts) o.lane
-  pub batch : ReadsNumber 1 1024 32 (value_in (codes "batch") parts) o.batch
-  pub round : ReadsNumber 1 65536 64 (value_in (codes "round") parts) o.round
+  pub workers : IsNumberOf 1 16 4 (value_in (codes "workers") parts) o.workers
+  pub threshold : IsNumberOf 1 1099511627776 (usual_threshold o.sketch) (value_in (codes "threshold") parts) o.threshold
+  pub lane : IsNumberOf 1 4096 64 (value_in (codes "lane") parts) o.lane
+  pub batch : IsNumberOf 1 1024 32 (value_in (codes "batch") parts) o.batch
+  pub round : IsNumberOf 1 65536 64 (value_in (codes "round") parts) o.round
   pub full : ReadsChoice full_text Leave (value_in (codes "full") parts) o.full
   pub mode : ReadsChoice mode_text Rounds (value_in (codes "mode") parts) o.mode
-  pub readers : ReadsNumber 0 4 0 (value_in (codes "readers") parts) o.readers
-  pub asks : ReadsNumber 0 1024 0 (value_in (codes "asks") parts) o.asks
+  pub readers : IsNumberOf 0 4 0 (value_in (codes "readers") parts) o.readers
+  pub asks : IsNumberOf 0 1024 0 (value_in (codes "asks") parts) o.asks
   pub watch : ReadsKeys keys o.watch.items
   pub room : o.watch.room ≡ 16
-  pub heavy : ReadsNumber 1 1024 64 (value_in (codes "heavy") parts) o.heavy
+  pub heavy : IsNumberOf 1 1024 64 (value_in (codes "heavy") parts) o.heavy
   pub least : ReadsInteger 1 1099511627776 1024 (value_in (codes "least") parts) o.least
   pub journal : o.journal ≡ is_in (codes "journal") parts
 
@@ -79,25 +79,25 @@ GivesWatched parts o = GivesOptions CountMin (value_in (codes "watch") parts) pa
 
 -- the words behind `run` give the options
 abbrev pub GivesRun : List Text → Options → Type 0
-GivesRun rest o = (parts : List Part) × IsLine (names_of RunVerb) parts rest × GivesWatched parts o
+GivesRun rest o = (parts : List Part) × IsCommandLine (names_of RunVerb) parts rest × GivesWatched parts o
 
 -- the words behind `load` give the number of records, the start and the options
 abbrev pub GivesLoad : List Text → ℕ → ℕ → Options → Type 0
-GivesLoad rest records start o = (parts : List Part) × IsLine (names_of LoadVerb) parts rest × GivesWatched parts o
+GivesLoad rest records start o = (parts : List Part) × IsCommandLine (names_of LoadVerb) parts rest × GivesWatched parts o
     × NeedsNumber 0 1048576 (value_in (codes "records") parts) records
     × NeedsNumber 0 4294967295 (value_in (codes "start") parts) start
 
 -- the words behind `prefix` give the options, with Count-Min, in rounds and without keys, and the watched networks, with room for
 -- the most that can be watched
 abbrev pub GivesPrefix : List Text → Options → Listed Network → Type 0
-GivesPrefix rest o watch = (parts : List Part) × IsLine (names_of PrefixVerb) parts rest × GivesOptions CountMin None parts o
+GivesPrefix rest o watch = (parts : List Part) × IsCommandLine (names_of PrefixVerb) parts rest × GivesOptions CountMin None parts o
     × ReadsNetworks (value_in (codes "watch") parts) watch.items × (watch.room ≡ 16)
 
 -- the words behind `epochs` give the packets of an epoch, the least change, and the options, with Count Sketch and without keys
 abbrev pub GivesEpochs : List Text → ℕ → ℕ → Options → Type 0
-GivesEpochs rest packets change o = (parts : List Part) × IsLine (names_of EpochsVerb) parts rest × GivesOptions CountSketch None parts o
+GivesEpochs rest packets change o = (parts : List Part) × IsCommandLine (names_of EpochsVerb) parts rest × GivesOptions CountSketch None parts o
     × NeedsNumber 256 16777216 (value_in (codes "packets") parts) packets
-    × ReadsNumber 1 1099511627776 1024 (value_in (codes "change") parts) change
+    × IsNumberOf 1 1099511627776 1024 (value_in (codes "change") parts) change
 
 -- the grammar: the words give the command
 abbrev pub Gives : List Text → Command → Type 0
@@ -108,7 +108,7 @@ Gives words (Epochs packets change o) = (rest : List Text) × (words ≡ codes "
 Gives words Audit = words ≡ codes "audit" ∷ []
 
 -- a Count Sketch, with nothing to watch and no one to ask, and the numbers in their ranges
-pub record AreEpochs (size least : ℕ) (o : Options) : Type 0 where
+pub record AreEpochOptions (size least : ℕ) (o : Options) : Type 0 where
   pub lawful : IsLawful o
   pub sketch : o.sketch ≡ CountSketch
   pub watch : o.watch.items ≡ []
@@ -125,5 +125,5 @@ abbrev pub IsLawfulCommand : Command → Type 0
 IsLawfulCommand (Run o) = IsLawful o
 IsLawfulCommand (Load records start o) = IsLawful o × (records ≤ 1048576)
 IsLawfulCommand (Prefix o watch) = IsLawful o × (o.sketch ≡ CountMin) × (o.mode ≡ Rounds) × AreWatched watch.items
-IsLawfulCommand (Epochs packets change o) = AreEpochs packets change o
+IsLawfulCommand (Epochs packets change o) = AreEpochOptions packets change o
 IsLawfulCommand Audit = Unit {0}

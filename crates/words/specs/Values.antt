@@ -22,9 +22,9 @@ NeedsNumber low high None n = ⊥
 NeedsNumber low high (Some text) n = IsNumberIn low high text n
 
 -- the number of a name that may be missing
-abbrev pub ReadsNumber : ℕ → ℕ → ℕ → Option Text → ℕ → Type 0
-ReadsNumber low high otherwise None n = n ≡ otherwise
-ReadsNumber low high otherwise (Some text) n = IsNumberIn low high text n
+abbrev pub IsNumberOf : ℕ → ℕ → ℕ → Option Text → ℕ → Type 0
+IsNumberOf low high otherwise None n = n ≡ otherwise
+IsNumberOf low high otherwise (Some text) n = IsNumberIn low high text n
 
 -- the same of a number that is kept with a sign
 abbrev pub ReadsInteger : ℕ → ℕ → ℕ → Option Text → ℤ → Type 0

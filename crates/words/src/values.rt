@@ -2,7 +2,7 @@ ghost use Rattle.std.specs.Prelude.{◌≡◌, true, false};
 ghost use Rattle.std.specs.Option.{option_copied};
 ghost use Rattle.hash_rows.specs.Lawful.{IsRegisters};
 ghost use Rattle.hash_rows.specs.OptionTexts.{sketch_text, amount_text, share_text, full_text, mode_text};
-ghost use Rattle.words.specs.Values.{Finds, IsNumberIn, ReadsNumber, NeedsNumber, ReadsInteger, ReadsChoice};
+ghost use Rattle.words.specs.Values.{Finds, IsNumberIn, IsNumberOf, NeedsNumber, ReadsInteger, ReadsChoice};
 ghost use Rattle.words.specs.Forms.{is_plain};
 
 use hash_rows::{Amount, Full, Mode, Share, Sketch};
@@ -33,7 +33,7 @@ pub(crate) fn number_in(text: &str, low: u64, high: u64) -> Option<u64>
 
 /// The number of an option that may be missing.
 pub(crate) fn number_or(text: Option<&str>, low: u64, high: u64, otherwise: u64) -> Option<u64>
-    ensures { Finds (ReadsNumber low high otherwise (option_copied text.entry)) result }
+    ensures { Finds (IsNumberOf low high otherwise (option_copied text.entry)) result }
 {
     match text {
         Some(text) => number_in(text, low, high),
@@ -43,7 +43,7 @@ pub(crate) fn number_or(text: Option<&str>, low: u64, high: u64, otherwise: u64)
 
 /// The same for a smaller number.
 pub(crate) fn small_or(text: Option<&str>, low: u32, high: u32, otherwise: u32) -> Option<u32>
-    ensures { Finds (ReadsNumber low high otherwise (option_copied text.entry)) result }
+    ensures { Finds (IsNumberOf low high otherwise (option_copied text.entry)) result }
 {
     match text {
         Some(text) => {

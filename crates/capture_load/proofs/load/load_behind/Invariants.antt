@@ -2,7 +2,7 @@ use Rattle.std.proofs.Common.{◌≡◌, ◌≤◌, ◌-◌, ℕ, List}
 use Rattle.flow_base.specs.Flow.{behind}
 use Rattle.flow_base.specs.LinesRead.{left_of}
 use Rattle.pcap_read.specs.Records.{Framed}
-use Rattle.capture_load.specs.Loads.{Counts, Loads, bytes_of, most_bytes}
+use Rattle.capture_load.specs.Loads.{Counts, Loads, bytes_taken, most_bytes}
 use Rattle.capture_load.proofs.load.load_behind.Given as goal
 
 abbrev pub invariant-reads : goal.invariant-reads
@@ -14,4 +14,4 @@ invariant-reads g l =
     × (l.source.source.ghost_name ≡ l.fn.source.source.ghost_name)
 
 abbrev pub decreases-reads : goal.decreases-reads
-decreases-reads g l = most_bytes - bytes_of l.loading.format
+decreases-reads g l = most_bytes - bytes_taken l.loading.format

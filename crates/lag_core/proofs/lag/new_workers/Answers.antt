@@ -5,7 +5,7 @@ use Rattle.listed.specs.Listed.{Listed}
 use Rattle.hash_rows.specs.declared.shape.Update.{Update}
 use Rattle.hash_rows.specs.Shapes.{size_of}
 use Rattle.lag_core.specs.declared.worker.LagWorker.{LagWorker}
-use Rattle.lag_core.specs.Workers.{IsFreshWorker, Limits, terms_of}
+use Rattle.lag_core.specs.Workers.{IsFreshWorker, Limits, terms_within}
 use Rattle.lag_core.proofs.CoreSteps.{row_at}
 use Rattle.lag_core.proofs.Slots.{slot_push}
 use Rattle.lag_core.proofs.lag.new_workers.Goals as goal
@@ -17,7 +17,7 @@ loop-number-preserved g c =
     let n = c.loop-number.number in
     let was = c.loop-number.invariant in
     let worker = c.in_ok-worker.worker in
-    let IsFresh : ℕ → LagWorker g.row.K.Denot g.row.K-Held.Denot → Type 0 = λ w d. IsFreshWorker g.K.Kind.stands (terms_of g.K.Kind.rules l) (size_of c.args.shape.now) w d in
+    let IsFresh : ℕ → LagWorker g.row.K.Denot g.row.K-Held.Denot → Type 0 = λ w d. IsFreshWorker g.K.Kind.stands (terms_within g.K.Kind.rules l) (size_of c.args.shape.now) w d in
     let fresh : IsFresh n worker = record {
       fresh = c.in_ok-worker.ensures.fresh l refl refl refl (ap length (row_at rows n c.get.result.now c.get.ensures) ∙ sym c.len.ensures);
       its_cells = c.in_ok-worker.ensures.cells;

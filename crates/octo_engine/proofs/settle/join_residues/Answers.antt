@@ -1,7 +1,7 @@
 use Rattle.std.proofs.Common.{◌∙◌, ◌<◌, sym, ap, subst, ◌≡◌, length, arith}
 use Rattle.hash_rows.specs.declared.shape.Shape.{Shape}
 use Rattle.hash_rows.specs.Shapes.{size_of}
-use Rattle.octo_engine.specs.Residues.{IsKept, HasJoined}
+use Rattle.octo_engine.specs.Residues.{IsOfSomeRun, HasJoined}
 use Rattle.push_rule.specs.Keeps.{Keeps}
 use Rattle.octo_engine.specs.declared.worker.Part.{Part}
 use Rattle.octo_engine.proofs.Settling.{joined_more}
@@ -24,8 +24,8 @@ pub join_residue-requires-clause-kept : goal.join_residue-requires-clause-kept
 join_residue-requires-clause-kept g c κs within =
     let kept = c.requires.kept c.loop-part.part-index c.part-item.result c.loop-part-test.true in (
       c.loop-part.part-index,
-      subst (λ (s : Shape). IsKept g.K.Kind.rules g.K.Kind.stands s c.loop-part.part-index c.part-item.result.counter) (sym c.loop-part.invariant.0)
-          (subst (λ (p : Part g.row.K.Denot g.row.K-Held.Denot). IsKept g.K.Kind.rules g.K.Kind.stands c.args.table.now.shape c.loop-part.part-index p.counter) (sym c.part-item.is) kept),
+      subst (λ (s : Shape). IsOfSomeRun g.K.Kind.rules g.K.Kind.stands s c.loop-part.part-index c.part-item.result.counter) (sym c.loop-part.invariant.0)
+          (subst (λ (p : Part g.row.K.Denot g.row.K-Held.Denot). IsOfSomeRun g.K.Kind.rules g.K.Kind.stands c.args.table.now.shape c.loop-part.part-index p.counter) (sym c.part-item.is) kept),
     )
 
 pub returns-clause-cells : goal.returns-clause-cells

@@ -1,7 +1,7 @@
 use Rattle.std.proofs.Common.{sym, subst, slice_index_or}
 use Rattle.hash_rows.specs.Tables.{TableView}
 use Rattle.push_history.specs.Journal.{terms_of}
-use Rattle.octo_engine.specs.Residues.{IsKept}
+use Rattle.octo_engine.specs.Residues.{IsOfSomeRun}
 use Rattle.octo_engine.proofs.Beginning.{are_terms, rules_are}
 use Rattle.octo_engine.proofs.Outcomes.{kept, table_is}
 use Rattle.octo_engine.proofs.settle.table_of.Goals as goal
@@ -13,7 +13,7 @@ join_residues-requires-clause-kept g c κs within =
     let packets = c.args.packets.now in
     let rules_is = rules_are g.K.Kind.rules o g.K.Kind.sketch kind.is_sketch c.requires.sketch in
     let terms = are_terms g.K.Kind.rules packets o rules_is c.requires.lawful c.requires.amounts c.requires.few in
-    λ w p lt. subst (λ (t : TableView). IsKept g.K.Kind.rules g.K.Kind.stands t.shape w (slice_index_or c.args.parts.now w p).counter) (sym c.into_table-table.ensures)
+    λ w p lt. subst (λ (t : TableView). IsOfSomeRun g.K.Kind.rules g.K.Kind.stands t.shape w (slice_index_or c.args.parts.now w p).counter) (sym c.into_table-table.ensures)
     (kept g.K.Kind.stands g.K.Kind.rules (terms_of packets o) o packets terms c.requires.end.0 c.args.parts.now c.args.state c.requires.end.1 w p lt)
 
 pub returns : goal.returns

@@ -1,6 +1,6 @@
 use Rattle.std.proofs.Common.{rules, ◌∙◌, ap, arith, length, length-append}
 use Rattle.push_history.specs.Journal.{terms_of}
-use Rattle.octo_engine.specs.Parts.{IsPart}
+use Rattle.octo_engine.specs.Parts.{IsWorkerAfter}
 use Rattle.octo_engine.proofs.Beginning.{grown, rules_are, suits}
 use Rattle.octo_engine.proofs.setup.parts_of.Goals as goal
 
@@ -15,7 +15,7 @@ loop-worker-preserved g c =
     let long = ap length items ∙ length-append c.loop-worker.parts.items _ in (
       omega (arith, long, was.0),
       search rules,
-      grown (λ w p. IsPart g.K.Kind.stands (terms_of packets o) o packets 0 w p) c.loop-worker.parts.items c.push_reserved.new.self.items c.loop-worker.worker _ was.0 items was.2
+      grown (λ w p. IsWorkerAfter g.K.Kind.stands (terms_of packets o) o packets 0 w p) c.loop-worker.parts.items c.push_reserved.new.self.items c.loop-worker.worker _ was.0 items was.2
           (record {
             share = c.in_ok-part.ensures.share;
             sound = c.in_ok-part.ensures.sound;

@@ -4,7 +4,7 @@ use Rattle.hash_rows.specs.Marks.{marked}
 use Rattle.hash_rows.specs.declared.shape.Update.{Update}
 use Rattle.push_history.specs.Updates.{updates_at, updates_of}
 use Rattle.push_replay.specs.declared.replay.Fault.{Fault}
-use Rattle.push_replay.specs.Replays.{IsFirst, Tells}
+use Rattle.push_replay.specs.Replays.{IsFirstFault, Tells}
 use Rattle.push_replay.proofs.Rows.{packets_more}
 use Rattle.push_replay.proofs.worker.replay_worker.Goals as goal
 
@@ -15,7 +15,7 @@ loop-place-init g c =
     record {
       tells = record {
         replays = new.replays (marked c.args.refused.now);
-        first = subst (λ (fault : Option Fault). IsFirst g.K.Kind.rules c.args.worker c.args.options.now.threshold c.in_ok-replay.replay.lane [] (marked c.args.refused.now) fault) (sym new.none.1)
+        first = subst (λ (fault : Option Fault). IsFirstFault g.K.Kind.rules c.args.worker c.args.options.now.threshold c.in_ok-replay.replay.lane [] (marked c.args.refused.now) fault) (sym new.none.1)
             (λ k lt its. absurd (omega (arith, lt)));
       };
       counted = omega (arith, new.none.0);

@@ -3,7 +3,7 @@ use Rattle.hash_rows.specs.Shapes.{size_of}
 use Rattle.hash_rows.specs.Tables.{TableView}
 use Rattle.push_rule.specs.Stands.{PrivateView, StandsFor}
 use Rattle.octo_engine.proofs.Beginning.{rules_are}
-use Rattle.thread_engine.specs.Residues.{Counted, HasJoined, IsFor}
+use Rattle.thread_engine.specs.Residues.{Counted, HasJoined, IsWorkerFor}
 use Rattle.thread_engine.proofs.Concluding.{each_for, fronts_few, fulls_are, has_ran, live_room, rows_room, whole_table}
 use Rattle.thread_engine.proofs.settling.conclude.Goals as goal
 
@@ -28,8 +28,8 @@ join_residues-requires-clause-each g c κs within =
     let kind = g.met.K.Kind g.world.𝓛 g.world.𝓜 g.world.𝓡 ((λ s x. x), (λ x. x), (λ x. x), (λ x. x)) in
     let o = c.args.options.now in
     let is = rules_are g.K.Kind.rules o g.K.Kind.sketch kind.is_sketch c.requires.sketch in
-    subst (λ sketches. (w : _) → (s : _) → w < length sketches → IsFor g.K.Kind.stands g.K.Kind.rules c.into_table-table.result.shape (slice_index_or sketches w s)) (sym c.as_slice.ensures)
-    (subst (λ (t : TableView). (w : _) → (s : _) → w < length c.args.spare.sketches.items → IsFor g.K.Kind.stands g.K.Kind.rules t.shape (slice_index_or c.args.spare.sketches.items w s)) (sym c.into_table-table.ensures)
+    subst (λ sketches. (w : _) → (s : _) → w < length sketches → IsWorkerFor g.K.Kind.stands g.K.Kind.rules c.into_table-table.result.shape (slice_index_or sketches w s)) (sym c.as_slice.ensures)
+    (subst (λ (t : TableView). (w : _) → (s : _) → w < length c.args.spare.sketches.items → IsWorkerFor g.K.Kind.stands g.K.Kind.rules t.shape (slice_index_or c.args.spare.sketches.items w s)) (sym c.into_table-table.ensures)
     (each_for g.K.Kind.stands g.K.Kind.rules o c.args.packets.now is c.requires.lawful c.requires.amounts c.requires.published.0 c.args.spare c.requires.published.1))
 
 pub returns-clause-fulls : goal.returns-clause-fulls

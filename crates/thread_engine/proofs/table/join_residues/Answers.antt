@@ -1,15 +1,15 @@
 use Rattle.std.proofs.Common.{◌≡◌, ◌∙◌, ◌<◌, length, sym, ap, subst, arith}
 use Rattle.hash_rows.specs.Shapes.{size_of}
 use Rattle.push_rule.specs.Stands.{PrivateView, StandsFor}
-use Rattle.thread_engine.specs.Residues.{HasJoined, IsFor}
+use Rattle.thread_engine.specs.Residues.{HasJoined, IsWorkerFor}
 use Rattle.thread_engine.proofs.Joining.{joined_more}
 use Rattle.thread_engine.proofs.table.join_residues.Goals as goal
 
 pub join_residue-requires-clause-one : goal.join_residue-requires-clause-one
 join_residue-requires-clause-one g c κs within =
     let own = c.requires.each c.loop-sketch.sketch-index c.sketch-item.result c.loop-sketch-test.true in
-    subst (λ s. IsFor g.K.Kind.stands g.K.Kind.rules s c.sketch-item.result) (sym c.loop-sketch.invariant.0)
-    (subst (λ (s : PrivateView g.row.K-Held.Denot). IsFor g.K.Kind.stands g.K.Kind.rules c.args.table.now.shape s) (sym c.sketch-item.is) own)
+    subst (λ s. IsWorkerFor g.K.Kind.stands g.K.Kind.rules s c.sketch-item.result) (sym c.loop-sketch.invariant.0)
+    (subst (λ (s : PrivateView g.row.K-Held.Denot). IsWorkerFor g.K.Kind.stands g.K.Kind.rules c.args.table.now.shape s) (sym c.sketch-item.is) own)
 
 pub loop-sketch-preserved : goal.loop-sketch-preserved
 loop-sketch-preserved g c =

@@ -1,6 +1,6 @@
 use Rattle.std.proofs.Common.{rules, ◌≡◌, ◌∙◌, arith, refl, sym, subst}
 use Rattle.octo_engine.proofs.Beginning.{grown}
-use Rattle.thread_setup.specs.Setups.{AreReaders, IsFirst, IsReader}
+use Rattle.thread_setup.specs.Setups.{AreReaders, IsFreshView, IsReader}
 use Rattle.thread_setup.proofs.Beginnings.{all_before, is_reader, len_more, lists_before}
 use Rattle.thread_setup.proofs.readers.readers_of.Goals as goal
 
@@ -22,7 +22,7 @@ loop-preserved g c =
       room = c.push.ensures.room ∙ h.room;
       readers = λ w first.
           let was = h.readers w first in
-          let split = all_before (IsFirst w) c.loop.views.items c.take_last-view.new.list.items c.take_last-view.result view was.0 in (
+          let split = all_before (IsFreshView w) c.loop.views.items c.take_last-view.new.list.items c.take_last-view.result view was.0 in (
             split.0,
             grown (λ q p. IsReader o w q p) c.loop.parts.items c.push.new.self.items n _ h.parts c.push.ensures.items was.1 (is_reader o w n _ split.1 own.1),
           );

@@ -1,6 +1,6 @@
 use Rattle.std.proofs.Common.{◌≡◌, ◌∙◌, ap, arith, length, get_or, refl, subst, sym}
 use Rattle.aggregate.proofs.Kept.{ends_len}
-use Rattle.aggregate.specs.Takens.{AreEnds}
+use Rattle.aggregate.specs.Takens.{ArePassesOf}
 use Rattle.live_view.specs.Views.{WriterView}
 use Rattle.octo_engine.specs.Looks.{layout_in}
 use Rattle.thread_run.specs.Workers.{AreReady}
@@ -34,7 +34,7 @@ returns-clause-ready g c =
       ready = subst (λ ws. AreReady g.K.Kind.stands g.K.Kind.rules o c.args.packets.now lanes ws) (sym c.into_items.ensures) h.ready;
       shares = λ w p lt. ap (λ ws. (get_or ws w p).share) c.into_items.ensures ∙ h.shares w p lt;
       thresholds = λ w p lt. ap (λ ws. (get_or ws w p).sketch.threshold) c.into_items.ensures ∙ h.thresholds w p lt;
-      ends = subst (AreEnds lanes) (sym e.outs) h.ends;
+      ends = subst (ArePassesOf lanes) (sym e.outs) h.ends;
       layout = layout;
       begun = e.taken;
       fresh = (ap (λ (w : WriterView). w.published) e.writer ∙ pair.lists.0, e.none, refl);

@@ -5,7 +5,7 @@ use Rattle.hash_rows.specs.declared.options.Sketch.{Sketch}
 use Rattle.hash_rows.specs.declared.options.Options.{Options}
 use Rattle.words.specs.Grammar.{value_in}
 use Rattle.words.specs.Options.{GivesOptions, GivesShape, suits, usual_threshold}
-use Rattle.words.specs.Values.{ReadsChoice, ReadsNumber}
+use Rattle.words.specs.Values.{ReadsChoice, IsNumberOf}
 use Rattle.words.proofs.Once.{same_choice, same_sketch}
 use Rattle.words.proofs.options.options_of.Goals as goal
 
@@ -23,8 +23,8 @@ returns-in_err-threshold c = λ parts keys am reads_keys room.
     subst (λ r. MatchOption r ((o : Options) → GivesOptions c.args.usual keys parts o → ⊥) (GivesOptions c.args.usual keys parts)) (sym none) (λ o g.
     let same = same_choice sketch_text c.args.usual _ _ _ same_sketch g.sketch reads in
     let usual = ap usual_threshold same ∙ sym c.usual_threshold-otherwise.ensures in
-    let number = subst (λ (d : ℕ). ReadsNumber 1 1099511627776 d (value_in (codes "threshold") parts) o.threshold) usual g.threshold in
-    c.in_err-threshold.ensures o.threshold (subst (λ v. ReadsNumber 1 1099511627776 c.usual_threshold-otherwise.result v o.threshold) (sym (c.get_str-2.ensures ∙ am.values (codes "threshold") refl)) number))
+    let number = subst (λ (d : ℕ). IsNumberOf 1 1099511627776 d (value_in (codes "threshold") parts) o.threshold) usual g.threshold in
+    c.in_err-threshold.ensures o.threshold (subst (λ v. IsNumberOf 1 1099511627776 c.usual_threshold-otherwise.result v o.threshold) (sym (c.get_str-2.ensures ∙ am.values (codes "threshold") refl)) number))
 
 pub returns-in_err-shape : goal.returns-in_err-shape
 returns-in_err-shape c = λ parts keys am reads_keys room.

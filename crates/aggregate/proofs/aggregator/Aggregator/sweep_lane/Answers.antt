@@ -3,7 +3,7 @@ use Rattle.std.specs.Prelude.{IfOk}
 use Rattle.std.proofs.lemmas.List.{length_push}
 use Rattle.hash_rows.specs.declared.shape.Push.{Push}
 use Rattle.aggregate.specs.Sweeps.{HasSweptLane, HasTaken, KeepsPair, AggregatorView}
-use Rattle.aggregate.specs.Takens.{AreEnds, takens}
+use Rattle.aggregate.specs.Takens.{ArePassesOf, takens}
 use Rattle.aggregate.proofs.Grown.{with_one}
 use Rattle.aggregate.proofs.Kept.{ends_within, has_taken_same, same_self, same_then, swept_one}
 use Rattle.aggregate.proofs.Sweeping.{lane_more, lane_none}
@@ -29,7 +29,7 @@ loop-count-preserved g c =
     let b = c.keep.new.self in
     let m = c.in-Some.message in
     let view : a ≡ c.loop-count.self = c.self.view_is in
-    let ends : AreEnds c.args.lanes.now a.outs = subst (λ (s : AggregatorView). AreEnds c.args.lanes.now s.outs) (sym view) h.ends in
+    let ends : ArePassesOf c.args.lanes.now a.outs = subst (λ (s : AggregatorView). ArePassesOf c.args.lanes.now s.outs) (sym view) h.ends in
     let within : c.args.place < length (takens a.outs) = ends_within c.args.lanes.now a.outs c.args.place ends c.requires.place in
     let inside : c.args.place < length (takens first.outs) = ends_within c.args.lanes.now first.outs c.args.place c.requires.ends c.requires.place in
     let outs : takens b.outs ≡ with_one (takens a.outs) c.args.place m = ap takens e.outs ∙ c.in-Some.ensures.taken in
@@ -38,7 +38,7 @@ loop-count-preserved g c =
     let layout : a.writer.layout ≡ first.writer.layout = ap (λ (s : AggregatorView). s.writer.layout) view ∙ h.same.layout in
     let lane : HasSweptLane g.K.Kind.rules c.args.place h.swept.0 first a = subst (λ (s : AggregatorView). HasSweptLane g.K.Kind.rules c.args.place h.swept.0 first s) (sym view) h.swept.1 in
     record {
-      ends = subst (AreEnds c.args.lanes.now) (sym e.outs) c.in-Some.ensures.ends;
+      ends = subst (ArePassesOf c.args.lanes.now) (sym e.outs) c.in-Some.ensures.ends;
       same = same_then _ c.loop-count.self b h.same (subst (λ (s : AggregatorView). KeepsPair s b) view step);
       count = omega (arith, more, e.same.batch);
       held = c.in_ok-keep.ensures.held;
@@ -54,7 +54,7 @@ returns-in_err-keep-clause-taken g c = λ was.
     let e = c.keep.ensures in
     let b = c.keep.new.self in
     let view : a ≡ c.loop-count.self = c.self.view_is in
-    let ends : AreEnds c.args.lanes.now a.outs = subst (λ (s : AggregatorView). AreEnds c.args.lanes.now s.outs) (sym view) h.ends in
+    let ends : ArePassesOf c.args.lanes.now a.outs = subst (λ (s : AggregatorView). ArePassesOf c.args.lanes.now s.outs) (sym view) h.ends in
     let within : c.args.place < length (takens a.outs) = ends_within c.args.lanes.now a.outs c.args.place ends c.requires.place in
     let outs : takens b.outs ≡ with_one (takens a.outs) c.args.place c.in-Some.message = ap takens e.outs ∙ c.in-Some.ensures.taken in
     swept_one g.K.Kind.rules a b c.args.place c.in-Some.message within e.same.layout outs e.kept (subst (HasTaken g.K.Kind.rules) (sym view) (h.taken was))

@@ -2,12 +2,12 @@ use Rattle.std.proofs.Common.{◌≡◌, ◌≤◌, ◌-◌, List, length}
 use Rattle.std.specs.Prelude.{None}
 use Rattle.hash_rows.specs.declared.shape.Push.{Push}
 use Rattle.aggregate.specs.Sweeps.{HasSweptLane, HasTaken, KeepsPair}
-use Rattle.aggregate.specs.Takens.{AreEnds}
+use Rattle.aggregate.specs.Takens.{ArePassesOf}
 use Rattle.aggregate.proofs.aggregator.Aggregator.sweep_lane.Given as goal
 
 abbrev pub invariant-loop-count : goal.invariant-loop-count
 invariant-loop-count g l = record {
-  ends : AreEnds l.lanes l.self.outs;
+  ends : ArePassesOf l.lanes l.self.outs;
   same : KeepsPair l.initial.self l.self;
   count : l.count ≤ l.self.batch;
   held : l.self.held ≡ None;

@@ -1,6 +1,6 @@
 use Rattle.std.proofs.Common.{arith, ap, sym, subst, ◌≡◌, ◌<◌, ◌-◌, ◌∙◌, ℕ, length, Option, None, slice_set}
 use Rattle.indexmap.specs.IndexMap.{spare}
-use Rattle.held_cells.specs.Held.{AreParts, Forms, HeldView, Parts, held_of}
+use Rattle.held_cells.specs.Held.{AreHeldParts, Forms, HeldView, Parts, held_of}
 use Rattle.held_cells.proofs.Holding.{forms_hold, held_len, idle_of, room_for, settled_held, settled_parts, shown_idle}
 use Rattle.held_cells.proofs.cells.HeldCells.set.Goals as goal
 
@@ -32,7 +32,7 @@ invariant_of-self g c =
     let some : 0 < p.left = omega (arith, c.requires.left, ap (λ (v : HeldView g.row.K-Held.Denot). v.left) c.self.view_is) in
     let kind = (g.met.K.Kind g.world.𝓛 g.world.𝓜 g.world.𝓡 ((λ s x. x), (λ x. x), (λ x. x), (λ x. x))) in
     let forms = forms_hold g.K.Kind.stands g.K.Kind.rules kind.laws kind.stands_for_values f kind.small_is kind.small_back in
-    subst (λ (d : Option (ℕ × g.row.K-Held.Denot)). AreParts g.K.Kind.stands f (record { bytes = c.hold.new.bytes.items; side = c.hold.new.side.entries; spare = spare c.hold.new.side; due = d; left = c.self.inside.left - 1 })) (sym idle)
+    subst (λ (d : Option (ℕ × g.row.K-Held.Denot)). AreHeldParts g.K.Kind.stands f (record { bytes = c.hold.new.bytes.items; side = c.hold.new.side.entries; spare = spare c.hold.new.side; due = d; left = c.self.inside.left - 1 })) (sym idle)
     (settled_parts g.K.Kind.stands f forms p c.args.cell c.self.invariant lt some (λ k other. shown_idle f p idle k) c.args.held c.requires.stands.0 c.requires.stands.1 c.requires.stands.2
     c.hold.new.bytes.items c.hold.new.side.entries (spare c.hold.new.side) (c.self.inside.left - 1) c.hold.ensures.bytes c.hold.ensures.side (omega (arith, some)))
 

@@ -6,7 +6,7 @@ use Rattle.hash_rows.specs.declared.shape.Update.{Update as Entry}
 use Rattle.hash_rows.specs.Shapes.{size_of}
 use Rattle.live_state.specs.declared.layout.Layout.{Layout}
 use Rattle.push_history.specs.LagRun.{lag_run}
-use Rattle.lag_core.specs.Workers.{terms_of}
+use Rattle.lag_core.specs.Workers.{terms_within}
 use Rattle.lag_core.specs.Lags.{Core}
 use Rattle.lag_core.proofs.CoreLaws.{conserves_at, lawful_at}
 use Rattle.lag_core.proofs.Fresh.{core_fresh, none_shown, rows_fit}
@@ -33,7 +33,7 @@ invariant_of-result g c =
     let fresh = core_fresh g.K.Kind.stands r V l c.in_ok-fold.ensures (all ∙ sym long) (c.in_ok-workers.ensures.count ∙ sym long) (omega (arith, all, long)) c.in_ok-workers.ensures.fresh
     (rows_fit r (size_of c.args.shape) rows c.in_ok-workers.ensures.few c.requires.cells c.requires.values)
     shown (subst (λ (n : ℕ). All (λ front. front.items ≡ replicate n 0) c.in_ok-seen.seen.items) (all ∙ sym long) c.in_ok-seen.ensures.zeros) in
-    (lag_run (terms_of r V.limits) (length V.seen) [], fresh)
+    (lag_run (terms_within r V.limits) (length V.seen) [], fresh)
 
 pub returns-clause-fresh : goal.returns-clause-fresh
 unfolding invariant_of-result

@@ -4,7 +4,7 @@ use Rattle.pcapng_read.specs.Capture.{AreBlocks}
 use Rattle.pcapng_read.specs.declared.block.Judged.TheVariants.{Waits}
 use Rattle.std.specs.Prelude.{ℕ}
 use Rattle.std.proofs.Common.{ap, sym, ◌∙◌, subst}
-use Rattle.pcapng_read.specs.Capture.{IsPart}
+use Rattle.pcapng_read.specs.Capture.{IsPartOfBlock}
 use Rattle.pcapng_read.specs.declared.block.Judged.{Judged}
 use Rattle.pcapng_read.proofs.reader.NgReader.new.Goals as goal
 
@@ -26,7 +26,7 @@ unfolding AreBlocks
 returns-in-Ok-clause-start c = record {
   blocks = [];
   rest = [];
-  cut = record { parts = refl; each = tt; partial = subst (λ (j : Judged). IsPart [] j) (sym (first c.args.limit)) tt };
+  cut = record { parts = refl; each = tt; partial = subst (λ (j : Judged). IsPartOfBlock [] j) (sym (first c.args.limit)) tt };
   frames_are = refl;
   walk = refl;
   judged_is = sym (first c.args.limit);

@@ -6,7 +6,7 @@ use Rattle.hash_rows.specs.declared.shape.Push.{Push}
 use Rattle.push_rule.proofs.Standing.{whole_own}
 use Rattle.push_rule.specs.Stands.{StandsFor}
 use Rattle.push_replay.proofs.Replayed.{after_quiet, after_refused, after_sent, owes_here, counted_here, sent_here, message_here}
-use Rattle.push_replay.specs.Replays.{first_of}
+use Rattle.push_replay.specs.Replays.{first_fault}
 use Rattle.push_replay.proofs.Watched.{quiet, none_step, refused_step}
 use Rattle.push_replay.proofs.replay.Replay.count.Goals as goal
 
@@ -85,7 +85,7 @@ returns-in-None-clause-watches g c = λ w T F U rep refused first.
     let distance = c.distance-distance.ensures _ _ (stood.cells u.cell) ∙ ap (r.distance _) (whole_own r U u) in
     none_step r w T c.args.self.now.lane F U u S rep.messages c.args.self.now.fault c.first_of-self.result c.args.refused c.counted-number.result c.distance-distance.result first refused
     (c.counted-number.ensures ∙ rep.sketch.all_counted) distance near
-    (c.first_of-self.ensures ∙ ap (first_of c.args.self.now.fault) c.near_of.ensures)
+    (c.first_of-self.ensures ∙ ap (first_fault c.args.self.now.fault) c.near_of.ensures)
 
 pub returns-then-refused-clause-watches : goal.returns-then-refused-clause-watches
 returns-then-refused-clause-watches g c = λ w T F U rep refused first.
@@ -97,4 +97,4 @@ returns-then-refused-clause-watches g c = λ w T F U rep refused first.
     let far = owes_here r w T F U u S rep.messages g.K.Kind.stands c.args.self.now.sketch rep.kept rep.sketch rep.threshold _ value (Some c.in-Some.amount) c.in-Some.ensures.due in
     refused_step r w T c.args.self.now.lane F U u S rep.messages c.args.self.now.fault c.first_of-self-then-refused.result c.counted-number.result c.len-messages.result first (sym refused ∙ c.if-refused.true)
     (c.counted-number.ensures ∙ rep.sketch.all_counted) (search rules) far.0
-    (c.first_of-self-then-refused.ensures ∙ ap (first_of c.args.self.now.fault) c.few_of.ensures)
+    (c.first_of-self-then-refused.ensures ∙ ap (first_fault c.args.self.now.fault) c.few_of.ensures)
