@@ -1,4 +1,5 @@
 -- None of the tests of a worker fails exactly where what the journal says of it is lawful.
+use Rattle.push_history.specs.LagRun.{is_wait}
 use Rattle.std.proofs.Common.{◌≡◌, ◌<◌, ◌≤◌, ℕ, ◌==◌, ◌||◌, List, [], ◌∷◌, length, get_or, Bool, true, false, not, refl, sym, ap, ◌∙◌, subst, arith}
 use Rattle.std.specs.Prelude.{All}
 use Rattle.std.specs.List.Sorted.{IsStrictlyIncreasing}
@@ -20,7 +21,7 @@ use Rattle.given_law.specs.Given.{given_messages, MayRefuse}
 use Rattle.given_law.proofs.Determined.{given_lawful, lawful_given}
 use Rattle.audit_law.specs.Forms.{HasForm}
 use Rattle.audit_law.specs.LineNumbers.{refused_line}
-use Rattle.audit_law.specs.WorkerTests.{refused_by, given_by, all_given, is_wait, refused_tests, all_refused_tests, worker_tests, all_worker_tests}
+use Rattle.audit_law.specs.WorkerTests.{refused_by, given_by, all_given, refused_tests, all_refused_tests, worker_tests, all_worker_tests}
 use Rattle.audit_law.proofs.Holding.{Hold, hold_head, hold_tail, hold_cons, hold_nil, hold_each, hold_range, hold_all, hold_list, unless}
 
 -- what holds of each refused update

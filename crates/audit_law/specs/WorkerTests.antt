@@ -1,8 +1,8 @@
 -- The tests of what a journal says of a worker.
-use Rattle.std.specs.Prelude.{ℕ, ◌==◌, ◌||◌, ◌∷◌, List, [], Bool, true, false, not, length, map, nat_lt, nat_le, slice_index_or}
+use Rattle.push_history.specs.LagRun.{is_wait}
+use Rattle.std.specs.Prelude.{ℕ, ◌==◌, ◌||◌, ◌∷◌, List, [], not, length, map, nat_lt, nat_le, slice_index_or}
 use Rattle.std.specs.List.{flat_map, range_with_len}
 use Rattle.hash_rows.specs.declared.options.Full.{Full}
-use Rattle.hash_rows.specs.declared.options.Full.TheVariants.{Leave, Wait}
 use Rattle.hash_rows.specs.declared.options.Options.{Options}
 use Rattle.hash_rows.specs.declared.shape.Packet.{Packet}
 use Rattle.hash_rows.specs.declared.shape.Push.{Push}
@@ -26,11 +26,6 @@ given_by packets o j w = given_messages (rules_in o) w o.threshold (updates_by_o
 -- those of each worker
 unfoldable pub all_given : List Packet → Options → Journal → List (List Push)
 all_given packets o j = map (given_by packets o j) (range_with_len 0 o.workers)
-
--- whether a push that meets a full lane waits
-abbrev pub is_wait : Full → Bool
-is_wait Leave = false
-is_wait Wait = true
 
 -- a refused update is one of the worker's, it was due, and the messages of a full lane stand before it
 unfoldable pub refused_tests : Options → List Update → List Push → (ℕ → ℕ) → ℕ → List Test

@@ -1,4 +1,5 @@
 -- Which test of a worker fails first.
+use Rattle.push_history.specs.LagRun.{is_wait}
 use Rattle.std.proofs.Common.{◌≡◌, ◌≢◌, ◌<◌, ◌≤◌, ℕ, ◌==◌, ◌||◌, List, [], ◌∷◌, length, get_or, Bool, true, false, not, if◌then◌else◌, refl, sym, ap, ap₂, ◌∙◌, subst, arith, inl, inr}
 use Rattle.std.specs.Prelude.{Some, count_by, slice_get}
 use Rattle.std.specs.List.Sorted.{IsStrictlyIncreasing}
@@ -20,7 +21,7 @@ use Rattle.octo_text.specs.declared.journal.Journal.{Journal}
 use Rattle.audit_law.specs.declared.failure.Value.TheVariants.{Number}
 use Rattle.audit_law.specs.LineNumbers.{worker_line}
 use Rattle.audit_law.specs.Tests.{Test, test, first_failing}
-use Rattle.audit_law.specs.WorkerTests.{given_by, refused_by, is_wait, all_refused_tests, worker_tests}
+use Rattle.audit_law.specs.WorkerTests.{given_by, refused_by, all_refused_tests, worker_tests}
 use Rattle.audit_law.proofs.Failing.{failing_head, failing_tail}
 use Rattle.journal_audit.proofs.Marking.{marked_rises}
 

@@ -1,10 +1,11 @@
+ghost use Rattle.push_history.specs.LagRun.{is_wait};
 ghost use Rattle.std.specs.Prelude.{◌≡◌, ◌<◌, ◌≤◌, ◌*◌, ◌+◌, ℕ, List, Some, length, if◌then◌else◌, MatchOption};
 ghost use Rattle.hash_rows.specs.declared.shape.Packet.{Packet};
 ghost use Rattle.push_history.specs.Journal.{rules_in, updates_by_options};
 ghost use Rattle.push_replay.specs.Replays.{IsFirstFault};
 ghost use Rattle.octo_text.specs.Content.{content_of};
 ghost use Rattle.audit_law.specs.Tests.{first_failing};
-ghost use Rattle.audit_law.specs.WorkerTests.{all_refused_tests, given_by, is_wait, refused_by, worker_tests};
+ghost use Rattle.audit_law.specs.WorkerTests.{all_refused_tests, given_by, refused_by, worker_tests};
 ghost use Rattle.audit_law.specs.LineNumbers.{refused_line};
 ghost use Rattle.audit_law.specs.declared.failure.Value.{Value};
 ghost use Rattle.octo_text.specs.Readable.{HasCountableLines};

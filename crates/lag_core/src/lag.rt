@@ -9,7 +9,7 @@ use crate::worker::{LagWorker, UpdateRows, new_worker, take_oldest, take_up};
 use flow_base::NoMemory;
 use hash_rows::{Counts, Full, Kind, Shape};
 use listed::Listed;
-use live_state::{State, copy_counts};
+use live_state::{State, copy_counts_into};
 use push_history::{Event, Reply};
 use std::alloc::Global;
 use std::marker::Model;
@@ -171,7 +171,7 @@ impl<K: Kind> Lag<K> {
         requires { reader < length self.old.seen }
         ensures { Steps K.stands K.rules self.old self.new (Ask reader) result }
     {
-        copy_counts(self.shown.front.as_slice(), &mut self.seen[reader as usize]);
+        copy_counts_into(self.shown.front.as_slice(), &mut self.seen[reader as usize]);
         Reply::Answered
     }
 }

@@ -5,7 +5,7 @@ ghost use Rattle.live_state.specs.Fold.{zero_cells};
 use flow_base::NoMemory;
 use hash_rows::{Counts, Kind, Shape, Table};
 use listed::Listed;
-use live_state::{State, copy_counts};
+use live_state::{State, copy_counts_into};
 use std::alloc::Global;
 
 /// What is shown of a state: its cells, of each worker how many messages and the last update, how
@@ -55,8 +55,8 @@ pub fn show<K: Kind>(state: &State<K>, shown: &mut ShownState<K>)
     ensures missed { shown.new.missed ≡ state.now.heavy.missed }
 {
     copy_table(state.table(), &mut shown.table);
-    copy_counts(state.fronts(), &mut shown.front);
-    copy_counts(state.uptos(), &mut shown.upto);
+    copy_counts_into(state.fronts(), &mut shown.front);
+    copy_counts_into(state.uptos(), &mut shown.upto);
     shown.live = state.heavy().len();
     shown.missed = state.heavy().missed();
 }

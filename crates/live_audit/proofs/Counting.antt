@@ -32,8 +32,7 @@ use Rattle.std.specs.Prelude.{pos}
 use Rattle.push_history.specs.LiveHeavy.{notes_of}
 use Rattle.push_history.specs.Shown.{told_cells}
 use Rattle.push_history.proofs.Notes.{notes_none, notes_push}
-use Rattle.live_state.specs.Fold.{Fit, fits}
-use Rattle.live_audit.specs.Alone.{layout_in}
+use Rattle.live_state.specs.Fold.{Fit, fits, layout_in}
 use Rattle.live_audit.specs.Counted.{AreFew, has_key, is_sure}
 
 pub count_both : {X : Type 0} (p : X → Bool) (xs ys : List X) → count_by p (xs ++ ys) ≡ count_by p xs + count_by p ys

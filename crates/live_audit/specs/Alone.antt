@@ -5,10 +5,6 @@ use Rattle.hash_rows.specs.declared.options.Options.{Options}
 use Rattle.live_state.specs.declared.layout.Layout.{Layout}
 use Rattle.live_state.specs.Fold.{StateView}
 
--- what the state is made for
-abbrev pub layout_in : Options → Layout
-layout_in o = record { shape = o.shape; workers = o.workers; heavy = o.heavy; least = o.least }
-
 -- there is a state just where one worker alone has messages, and it has these live keys and missed so many
 abbrev pub IsAlone : Bool → List FlowKey → ℕ → Option StateView → Type 0
 IsAlone lone keys missed alone = MatchOption alone (lone ≡ false) (λ s. (lone ≡ true) × (s.heavy.keys ≡ keys) × (s.heavy.missed ≡ missed))

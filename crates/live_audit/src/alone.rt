@@ -2,12 +2,12 @@ ghost use Rattle.std.specs.Prelude.{◌≡◌, ◌≤◌, ◌∷◌, ◌&&◌, �
 ghost use Rattle.packet_key.specs.declared.key.FlowKey.{FlowKey};
 ghost use Rattle.hash_rows.specs.Lawful.{IsLawful};
 ghost use Rattle.push_history.specs.LiveHeavy.{live_keys, missed_keys, same_key};
-ghost use Rattle.live_state.specs.Fold.{absorbed, state_after};
+ghost use Rattle.live_state.specs.Fold.{absorbed, state_after, layout_in};
 ghost use Rattle.told_table.specs.Tables.{AreSent, all_messages, lists_of};
 ghost use Rattle.audit_law.specs.declared.failure.Value.TheVariants.{Key, Number};
 ghost use Rattle.audit_law.specs.Tests.{first_failing, test};
 ghost use Rattle.audit_law.specs.LiveTests.{is_lone, key_at, key_there};
-ghost use Rattle.live_audit.specs.Alone.{IsAlone, layout_in};
+ghost use Rattle.live_audit.specs.Alone.{IsAlone};
 ghost use Rattle.live_audit.specs.Counted.{AreFew};
 
 use crate::tests::{failure_of, number_failure};

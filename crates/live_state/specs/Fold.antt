@@ -2,6 +2,7 @@
 use Rattle.std.specs.Prelude.{◌≡◌, ℕ, ℤ, pos, ◌+◌, ◌&&◌, Bool, true, List, length, replicate, nat_lt, fold, All, slice_set, slice_index_or, if◌then◌else◌}
 use Rattle.flow_base.specs.Calls.{one_more}
 use Rattle.packet_key.specs.declared.key.FlowKey.{FlowKey}
+use Rattle.hash_rows.specs.declared.options.Options.{Options}
 use Rattle.hash_rows.specs.declared.shape.Push.{Push}
 use Rattle.hash_rows.specs.declared.shape.Shape.{Shape}
 use Rattle.hash_rows.specs.Rules.{Rules}
@@ -22,6 +23,10 @@ pub record StateView : Type 0 where
 -- the last number of a count of 64 bits
 abbrev pub most : ℕ
 most = 18446744073709551615
+
+-- what the state of a run with these options is made for
+abbrev pub layout_in : Options → Layout
+layout_in o = record { shape = o.shape; workers = o.workers; heavy = o.heavy; least = o.least }
 
 -- what the state is made for
 abbrev pub layout_of : StateView → Layout

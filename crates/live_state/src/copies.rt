@@ -6,7 +6,7 @@ ghost use Rattle.live_state.specs.Fold.{zero_cells};
 use hash_rows::{Counts, Kind, Table};
 
 /// Copies a list of counts.
-pub fn copy_counts(from: &[u64], into: &mut Counts)
+pub fn copy_counts_into(from: &[u64], into: &mut Counts)
     requires { length into.old.items ≡ length from.now }
     ensures items { into.new.items ≡ from.now }
     ensures room { into.new.room ≡ into.old.room }

@@ -7,7 +7,7 @@ mod layout;
 mod state;
 mod tally;
 
-pub use copies::{copy_counts, fill_table};
+pub use copies::{copy_counts_into, fill_table};
 pub use laws::state_shows_its_messages;
 pub use layout::Layout;
 pub use state::State;

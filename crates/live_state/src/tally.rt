@@ -3,7 +3,7 @@ ghost use Rattle.heavy_keys.specs.Noted.{noted};
 ghost use Rattle.live_state.specs.Tallies.{fresh_tally, counted, key_noted_in};
 ghost use Rattle.live_state.specs.Fold.{front_raised};
 
-use crate::copies::copy_counts;
+use crate::copies::copy_counts_into;
 use flow_base::NoMemory;
 use hash_rows::Counts;
 use heavy_keys::Heavy;
@@ -68,8 +68,8 @@ impl Tally {
         requires { self.old ≡ fresh_tally (length other.now.front) other.now.heavy.limit other.now.heavy.least }
         ensures { self.new ≡ other.now }
     {
-        copy_counts(other.front.as_slice(), &mut self.front);
-        copy_counts(other.upto.as_slice(), &mut self.upto);
+        copy_counts_into(other.front.as_slice(), &mut self.front);
+        copy_counts_into(other.upto.as_slice(), &mut self.upto);
         self.folded = other.folded;
         self.heavy.copy_from(&other.heavy);
     }

@@ -4,7 +4,7 @@ ghost use Rattle.live_state.specs.Copies.{HasRoomFor, IsCopyOf, KeepsRest, estim
 
 use crate::published::Published;
 use hash_rows::{Answer, Cells, Kind};
-use live_state::copy_counts;
+use live_state::copy_counts_into;
 use packet_key::FlowKey;
 
 /// Copies front, last updates and count, and the estimate of each key.
@@ -16,8 +16,8 @@ pub fn copy<K: Kind>(page: &Published<K>, keys: &[FlowKey], into: &mut Answer)
 {
     let tally = page.tally();
     into.folded = tally.folded();
-    copy_counts(tally.front(), &mut into.front);
-    copy_counts(tally.upto(), &mut into.upto);
+    copy_counts_into(tally.front(), &mut into.front);
+    copy_counts_into(tally.upto(), &mut into.upto);
     estimate_all(page, keys, &mut into.shown);
 }
 

@@ -20,13 +20,13 @@ use Rattle.hash_rows.specs.Shapes.{size_of}
 use Rattle.push_history.specs.Journal.{rules_in, terms_of, updates_by_options}
 use Rattle.push_history.specs.Share.{share_of_worker}
 use Rattle.push_history.specs.Updates.{updates_of}
-use Rattle.live_state.specs.Fold.{Fit, StateView, fresh_state, state_after}
+use Rattle.live_state.specs.Fold.{Fit, StateView, fresh_state, state_after, layout_in}
 use Rattle.round_law.specs.OwnRounds.{folded_after}
 use Rattle.round_law.proofs.Fitting.{folded_few, folded_fits}
 use Rattle.round_law.proofs.OwnRounds.{folded_none}
 use Rattle.push_history.proofs.Fitting.{terms_len, updates_there}
 use Rattle.octo_engine.specs.Counts.{HasShare}
-use Rattle.octo_engine.specs.Looks.{AreLooks, layout_in, looks_wanted}
+use Rattle.octo_engine.specs.Looks.{AreLooks, looks_wanted}
 use Rattle.octo_engine.specs.declared.worker.Part.{Part}
 use Rattle.octo_engine.specs.Rounds.{AreWorkersAfter, AreTerms, IsAfter, Suit}
 

@@ -11,11 +11,11 @@ use Rattle.push_history.specs.Journal.{keys_of}
 use Rattle.push_history.specs.LagRun.{Terms}
 use Rattle.push_history.specs.Shown.{told_cells}
 use Rattle.live_state.specs.Copies.{IsCopyOf}
-use Rattle.live_state.specs.Fold.{StateView, state_after}
+use Rattle.live_state.specs.Fold.{StateView, state_after, layout_in}
 use Rattle.live_state.proofs.Live.{shows_all}
 use Rattle.round_law.specs.OwnRounds.{folded_after}
 use Rattle.push_history.specs.Looks.{IsLook}
-use Rattle.octo_engine.specs.Looks.{AreAllLooks, AreLooks, AreMoreLooks, Runs, layout_in}
+use Rattle.octo_engine.specs.Looks.{AreAllLooks, AreLooks, AreMoreLooks, Runs}
 
 -- a list with one item more, place by place
 pub at_end : {A : Type 0} (xs : List A) (x : A) (k : ℕ) (y : A) → slice_get (xs ++ x ∷ []) k ≡ Some y → (slice_get xs k ≡ Some y) ⊎ ((k ≡ length xs) × (y ≡ x))

@@ -27,7 +27,7 @@ use Rattle.push_history.specs.Shown.{told_cells}
 use Rattle.push_history.specs.Told.{told_of}
 use Rattle.push_history.proofs.Joins.{told_value}
 use Rattle.push_rule.specs.Keeps.{Keeps}
-use Rattle.live_state.specs.Fold.{StateView}
+use Rattle.live_state.specs.Fold.{StateView, layout_in}
 use Rattle.live_state.specs.Shows.{Shows}
 use Rattle.live_state.proofs.Live.{shows_all}
 use Rattle.round_law.specs.OwnRounds.{folded_after, own_rounds}
@@ -39,7 +39,7 @@ use Rattle.round_law.proofs.OwnRounds.{idle_by_workers, worker_after}
 use Rattle.round_law.proofs.Settled.{settled_sequential}
 use Rattle.octo_engine.specs.declared.worker.Part.{Part}
 use Rattle.octo_engine.specs.Answers.{AreLooksByReader, IsLookFor}
-use Rattle.octo_engine.specs.Looks.{AreAllLooks, layout_in, looks_wanted}
+use Rattle.octo_engine.specs.Looks.{AreAllLooks, looks_wanted}
 use Rattle.octo_engine.specs.Parts.{is_busy_part}
 use Rattle.octo_engine.specs.Residues.{HasJoined, HasRefused, IsOfSomeRun, residues_of}
 use Rattle.octo_engine.specs.Rounds.{AreTerms, IsAtEnd}

@@ -17,13 +17,13 @@ use Rattle.push_history.specs.OwnSteps.{folded_in_round, own_round}
 use Rattle.round_law.proofs.WorkLeft.{is_own_busy, work_left}
 use Rattle.push_history.specs.Share.{share_of_worker}
 use Rattle.push_rule.specs.Keeps.{Keeps}
-use Rattle.live_state.specs.Fold.{StateView, absorbed, fresh_state, state_after}
+use Rattle.live_state.specs.Fold.{StateView, absorbed, fresh_state, state_after, layout_in}
 use Rattle.round_law.specs.OwnRounds.{folded_after, own_rounds}
 use Rattle.round_law.proofs.OwnRounds.{folded_more, rounds_more}
 use Rattle.round_law.proofs.Measure.{IsWithin, less_left, no_more_left, round_within}
 use Rattle.octo_engine.specs.declared.worker.Part.{Part}
 use Rattle.octo_engine.specs.Counts.{HasShare}
-use Rattle.octo_engine.specs.Looks.{AreLooks, Runs, layout_in}
+use Rattle.octo_engine.specs.Looks.{AreLooks, Runs}
 use Rattle.octo_engine.specs.Parts.{IsWorkerAfter, RanBlock, block, is_busy_part, messages_in, part_work}
 use Rattle.octo_engine.specs.Rounds.{AreWorkersAfter, AreTerms, IsAfter}
 use Rattle.octo_engine.proofs.Places.{has_len}

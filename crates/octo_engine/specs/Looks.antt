@@ -5,14 +5,10 @@ use Rattle.hash_rows.specs.declared.answer.Answer.{Answer}
 use Rattle.hash_rows.specs.declared.options.Options.{Options}
 use Rattle.hash_rows.specs.Rules.{Rules}
 use Rattle.push_history.specs.LagRun.{Terms}
-use Rattle.live_state.specs.Fold.{Fit}
+use Rattle.live_state.specs.Fold.{Fit, layout_in}
 use Rattle.live_state.specs.declared.layout.Layout.{Layout}
 use Rattle.round_law.specs.OwnRounds.{folded_after}
 use Rattle.push_history.specs.Looks.{IsLook}
-
--- what the live state is made for
-abbrev pub layout_in : Options → Layout
-layout_in o = record { shape = o.shape; workers = o.workers; heavy = o.heavy; least = o.least }
 
 -- all messages of a run fit the state, and can be counted
 pub record Runs (r : Rules) (t : Terms) (o : Options) : Type 0 where

@@ -8,11 +8,11 @@ use Rattle.hash_rows.specs.declared.shape.Packet.{Packet}
 use Rattle.hash_rows.specs.Rules.{Rules}
 use Rattle.push_history.specs.LagRun.{Terms}
 use Rattle.push_history.specs.Share.{share_of_worker}
-use Rattle.live_state.specs.Fold.{StateView, state_after}
+use Rattle.live_state.specs.Fold.{StateView, state_after, layout_in}
 use Rattle.round_law.specs.OwnRounds.{folded_after}
 use Rattle.octo_engine.specs.declared.worker.Part.{Part}
 use Rattle.octo_engine.specs.Counts.{HasShare}
-use Rattle.octo_engine.specs.Looks.{AreLooks, Runs, layout_in}
+use Rattle.octo_engine.specs.Looks.{AreLooks, Runs}
 use Rattle.octo_engine.specs.Parts.{IsWorkerAfter, is_busy_part}
 
 -- the terms are of a run over these packets

@@ -3,9 +3,9 @@ ghost use Rattle.std.specs.Prelude.{◌≡◌, ◌≤◌, ◌+◌, ℕ, List, le
 ghost use Rattle.push_history.specs.Journal.{keys_of};
 ghost use Rattle.push_history.specs.LagRun.{Terms};
 ghost use Rattle.live_state.specs.Copies.{IsCopyOf, estimates_in};
-ghost use Rattle.live_state.specs.Fold.{state_after};
+ghost use Rattle.live_state.specs.Fold.{state_after, layout_in};
 ghost use Rattle.round_law.specs.OwnRounds.{folded_after};
-ghost use Rattle.octo_engine.specs.Looks.{AreAllLooks, AreLooks, Runs, layout_in, looks_wanted};
+ghost use Rattle.octo_engine.specs.Looks.{AreAllLooks, AreLooks, Runs, looks_wanted};
 ghost use Rattle.octo_engine.specs.Answers.{AreLooksByReader, IsLookFor, IsLike};
 
 use flow_base::NoMemory;

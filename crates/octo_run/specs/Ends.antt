@@ -5,7 +5,7 @@ use Rattle.flow_base.specs.Flow.{grown, TookFront}
 use Rattle.flow_base.specs.declared.status.Status.{Status}
 use Rattle.flow_base.specs.declared.status.Status.TheVariants.{Done}
 use Rattle.octo_run.specs.Faults.{TellsLine, fault_line, status_of}
-use Rattle.octo_run.specs.Refusals.{HasJournal, Input, IsAccepted, IsDifference, IsRefusal, IsUnrefused, HoldsFault}
+use Rattle.octo_run.specs.Refusals.{HasJournal, Input, IsAccepted, IsDifference, IsUnrefused, HoldsFault}
 use Rattle.octo_run.specs.declared.faults.Fault.{Fault}
 use Rattle.octo_run.specs.declared.faults.Fault.TheVariants.{Usage as UsageFault, ReadFault as SourceFault, WriteFault as SinkFault}
 use Rattle.octo_run.specs.declared.faults.Fault.TheVariants.{Bad as BadFault, BadLine as LineFault, NoMemory as MemoryFault, Differs as JournalFault}

@@ -1,11 +1,11 @@
 ghost use Rattle.std.specs.Prelude.{◌≡◌, ◌<◌, ◌≤◌, ◌+◌, ◌++◌, length};
-ghost use Rattle.std.specs.Char.{digit_char};
 ghost use Rattle.octo_run.specs.Faults.{TellsLine, bad_text, fault_line, fault_text, hex8, ng_text, pcap_text, status_of};
 
 use crate::faults::Fault;
 use capture_load::Refusal;
 use flow_base::{Sink, Status};
 use octo_text::Line;
+use packet_key::hex_digit;
 use pcap_read::Bad;
 use pcapng_read::NgBad;
 
@@ -134,16 +134,4 @@ fn put_hex(line: &mut Line, number: u32)
         hex_digit(number % 16),
     ];
     line.text(&digits);
-}
-
-fn hex_digit(digit: u32) -> u8
-    requires { digit < 16 }
-    ensures { result ≡ digit_char digit }
-{
-    let digit = digit as u8;
-    if digit < 10 {
-        b'0' + digit
-    } else {
-        b'a' + (digit - 10)
-    }
 }

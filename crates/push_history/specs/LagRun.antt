@@ -1,5 +1,5 @@
 -- A run of workers, lanes and readers, one event after another.
-use Rattle.std.specs.Prelude.{ℕ, ◌+◌, ◌-◌, ◌==◌, ◌∷◌, ◌++◌, List, [], if◌then◌else◌, length, fold, nat_lt, replicate, slice_index_or, slice_set}
+use Rattle.std.specs.Prelude.{Bool, true, false, ℕ, ◌+◌, ◌-◌, ◌==◌, ◌∷◌, ◌++◌, List, [], if◌then◌else◌, length, fold, nat_lt, replicate, slice_index_or, slice_set}
 use Rattle.hash_rows.specs.declared.options.Full.{Full}
 use Rattle.hash_rows.specs.declared.options.Full.TheVariants.{Leave, Wait}
 use Rattle.hash_rows.specs.declared.shape.Update.{Update as Entry}
@@ -66,6 +66,11 @@ message_of r w updates sent k =
       cell = update.cell;
       amount = r.gap (told r sent k update.cell) (whole r updates (k + 1) update.cell);
     }
+
+-- whether a push that meets a full lane waits
+abbrev pub is_wait : Full → Bool
+is_wait Leave = false
+is_wait Wait = true
 
 -- a push that meets a full lane
 abbrev pub meets_full : Full → Worker → Worker × Reply

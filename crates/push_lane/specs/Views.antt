@@ -27,5 +27,5 @@ pub record BothView : Type 0 where
   pub fulls : ℕ
 
 -- the count after one more, which stays at its last value
-abbrev pub one_more : ℕ → ℕ
-one_more n = max n (min (n + 1) (2 ^ 64 - 1))
+abbrev pub one_more_or_last : ℕ → ℕ
+one_more_or_last n = max n (min (n + 1) (2 ^ 64 - 1))

@@ -3,7 +3,7 @@ ghost use Rattle.std.specs.Prelude.{◌≡◌, ◌<◌, ◌≤◌, ◌^◌, ◌�
 ghost use Rattle.hash_rows.specs.declared.shape.Push.{Push};
 ghost use Rattle.push_lane.specs.LaneHistory.{LaneHistory};
 ghost use Rattle.push_lane.specs.Rule.{StartsWith};
-ghost use Rattle.push_lane.specs.Views.{one_more};
+ghost use Rattle.push_lane.specs.Views.{one_more_or_last};
 
 use crate::passes::{BothPass, InPass, OutPass};
 use crate::rule::{Drains, Ends, InOrder, Log, Sends, Takes};
@@ -64,7 +64,7 @@ impl Lane {
         ensures lane { pass.new.id ≡ pass.old.id }
         ensures sent { pass.new.sent ≡ pass.old.sent }
         ensures fulls { MatchBool result
-            ((pass.new.fulls ≡ one_more pass.old.fulls) × (self.now.capacity ≤ length pass.old.sent))
+            ((pass.new.fulls ≡ one_more_or_last pass.old.fulls) × (self.now.capacity ≤ length pass.old.sent))
             (pass.new.fulls ≡ pass.old.fulls) }
     {
         if self.queue.is_full_as::<Sends>(&mut pass.pass) {
@@ -83,7 +83,7 @@ impl Lane {
         ensures lane { pass.new.id ≡ pass.old.id }
         ensures sent { MatchResult result
             (λ _. (pass.new.sent ≡ pass.old.sent ++ message ∷ []) × (pass.new.fulls ≡ pass.old.fulls))
-            (λ back. (back ≡ message) × (pass.new.sent ≡ pass.old.sent) × (pass.new.fulls ≡ one_more pass.old.fulls)
+            (λ back. (back ≡ message) × (pass.new.sent ≡ pass.old.sent) × (pass.new.fulls ≡ one_more_or_last pass.old.fulls)
             × (self.now.capacity ≤ length pass.old.sent)) }
     {
         // A full lane costs two loads.

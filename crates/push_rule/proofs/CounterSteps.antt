@@ -10,7 +10,7 @@ use Rattle.hash_rows.specs.declared.shape.Update.{Update}
 use Rattle.hash_rows.specs.declared.shape.Push.{Push}
 use Rattle.hash_rows.specs.Rules.{Rules, AreLaws}
 use Rattle.push_history.specs.declared.event.Reply.TheVariants.{Counted, Pushed, Refused, Waits}
-use Rattle.push_history.specs.LagRun.{Terms, Worker, fresh_worker, updates_by, count_step, message_of, meets_full, pushes}
+use Rattle.push_history.specs.LagRun.{Terms, Worker, fresh_worker, updates_by, count_step, message_of, meets_full, pushes, is_wait}
 use Rattle.push_history.specs.Pushes.{ArePushes, distance_at}
 use Rattle.push_history.specs.Residue.{residue}
 use Rattle.push_history.specs.Told.{told, told_of}
@@ -20,7 +20,7 @@ use Rattle.push_history.proofs.Growing.{numbers_within, told_all}
 use Rattle.push_rule.specs.Stands.{StandsFor, StandsAt, PrivateView, Owes}
 use Rattle.push_rule.specs.Stands.{Waits as Open}
 use Rattle.push_rule.proofs.Standing.{whole_own}
-use Rattle.push_rule.specs.Counters.{CounterView, KeepsSettings, in_lane, is_wait}
+use Rattle.push_rule.specs.Counters.{CounterView, KeepsSettings, in_lane}
 use Rattle.push_rule.specs.Keeps.{Keeps}
 
 -- the updates up to the next one

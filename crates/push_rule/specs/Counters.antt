@@ -1,7 +1,6 @@
 -- What contracts see of a worker.
-use Rattle.std.specs.Prelude.{◌≡◌, ℕ, List, ◌-◌, ◌++◌, length, Bool, true, false}
+use Rattle.std.specs.Prelude.{◌≡◌, ℕ, List, ◌-◌, ◌++◌, length}
 use Rattle.hash_rows.specs.declared.options.Full.{Full}
-use Rattle.hash_rows.specs.declared.options.Full.TheVariants.{Leave, Wait}
 use Rattle.hash_rows.specs.declared.shape.Push.{Push}
 use Rattle.push_rule.specs.Stands.{PrivateView}
 
@@ -30,10 +29,6 @@ pub record KeepsSettings {Held : Type 0} (old new : CounterView Held) : Type 0 w
   pub threshold : new.sketch.threshold ≡ old.sketch.threshold
   pub updates : new.sketch.room ≡ old.sketch.room
   pub cells : length new.sketch.held ≡ length old.sketch.held
-
-abbrev pub is_wait : Full → Bool
-is_wait Leave = false
-is_wait Wait = true
 
 -- the list has grown at its end
 pub record Extends {A : Type 0} (old new : List A) : Type 0 where

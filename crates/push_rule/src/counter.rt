@@ -1,6 +1,6 @@
 ghost use Rattle.std.specs.Prelude.{◌≡◌, ◌<◌, ◌≤◌, ◌+◌, ◌-◌, ◌*◌, ◌^◌, ℕ, [], ◌∷◌, length, drop, true, IfOk};
 ghost use Rattle.hash_rows.specs.Shapes.{IsShape, size_of};
-ghost use Rattle.push_history.specs.LagRun.{Terms, Worker, count_step, fresh_worker, updates_by};
+ghost use Rattle.push_history.specs.LagRun.{Terms, Worker, count_step, fresh_worker, updates_by, is_wait};
 ghost use Rattle.push_history.specs.OwnSteps.{with_taken};
 ghost use Rattle.push_history.specs.Residue.{residue};
 ghost use Rattle.push_history.specs.Updates.{update_at};
@@ -47,7 +47,7 @@ impl<K: Kind> Model for Counter<K> {
 impl<K: Kind> Counter<K> {
     ghost use Rattle.std.specs.Prelude.{None, ◌&&◌, ◌||◌, nat_le, nat_lt, false, if◌then◌else◌, max, slice_index_or};
     ghost use Rattle.push_history.specs.Pushes.{distance_at, is_refused};
-    ghost use Rattle.push_rule.specs.Counters.{KeepsSettings, Extends, in_lane, is_wait};
+    ghost use Rattle.push_rule.specs.Counters.{KeepsSettings, Extends, in_lane};
     ghost use Rattle.push_history.specs.Rounds.{is_waits};
     ghost use Rattle.push_rule.specs.Keeps.{Keeps};
 

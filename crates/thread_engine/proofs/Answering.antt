@@ -17,12 +17,11 @@ use Rattle.push_history.specs.Journal.{keys_of, rules_in}
 use Rattle.push_history.specs.Looks.{IsLook}
 use Rattle.push_history.specs.Shown.{told_cells}
 use Rattle.live_state.specs.Copies.{IsCopyOf}
-use Rattle.live_state.specs.Fold.{Fit, StateView, fits, most, state_after}
+use Rattle.live_state.specs.Fold.{Fit, StateView, fits, most, state_after, layout_in}
 use Rattle.live_state.specs.Shows.{Shows}
 use Rattle.live_state.specs.declared.layout.Layout.{Layout}
 use Rattle.live_state.proofs.Live.{shows_all}
 use Rattle.live_view.specs.Views.{ReaderView}
-use Rattle.octo_engine.specs.Looks.{layout_in}
 use Rattle.thread_law.specs.Ran.{AreAnswers, IsAnswer, IsAnswerNumber}
 use Rattle.thread_engine.specs.Readers.{HasSeen}
 

@@ -1,4 +1,5 @@
 -- What all that was published says of the results.
+use Rattle.live_state.specs.Fold.{layout_in}
 use Rattle.std.proofs.Common.{◌≡◌, ◌<◌, ◌≤◌, ◌^◌, ℕ, ℤ, Bool, List, length, get_or, sym, ap, ◌∙◌, subst, arith}
 use Rattle.std.specs.Prelude.{All, map}
 use Rattle.packet_key.specs.declared.key.FlowKey.{FlowKey}
@@ -15,7 +16,6 @@ use Rattle.push_history.specs.Journal.{rules_in}
 use Rattle.push_history.proofs.MoreMessages.{front_len}
 use Rattle.push_rule.specs.Stands.{PrivateView, StandsFor}
 use Rattle.live_state.specs.Shows.{Shows}
-use Rattle.octo_engine.specs.Looks.{layout_in}
 use Rattle.thread_ends.specs.Ends.{both_fulls, both_sents}
 use Rattle.thread_law.specs.Ran.{HasRan, marked_by}
 use Rattle.thread_setup.specs.declared.spare.Spare.{Spare}

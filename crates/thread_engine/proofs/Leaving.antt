@@ -15,10 +15,9 @@ use Rattle.push_lane.specs.Views.{LaneView}
 use Rattle.aggregate.specs.Sweeps.{AggregatorView, kept_by, listed_held}
 use Rattle.aggregate.specs.Takens.{AreNamed, AreTaken, takens}
 use Rattle.live_state.specs.Copies.{HasRoomFor}
-use Rattle.live_state.specs.Fold.{Fit}
+use Rattle.live_state.specs.Fold.{Fit, layout_in}
 use Rattle.live_state.specs.declared.layout.Layout.{Layout}
 use Rattle.live_view.specs.Views.{ReaderView}
-use Rattle.octo_engine.specs.Looks.{layout_in}
 use Rattle.thread_ends.specs.Ends.{kept_in}
 use Rattle.thread_law.specs.Ran.{AreAnswers}
 use Rattle.thread_run.specs.Readers.{AreAsked, HasAsked}

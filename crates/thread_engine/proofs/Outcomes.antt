@@ -31,11 +31,10 @@ use Rattle.push_rule.specs.Stands.{PrivateView, StandsFor}
 use Rattle.aggregate.specs.Takens.{AreNamed, AreTaken}
 use Rattle.fold_law.specs.Folds.{IsFoldOf}
 use Rattle.fold_law.proofs.Live.{live_most}
-use Rattle.live_state.specs.Fold.{Fit, StateView, most, state_after}
+use Rattle.live_state.specs.Fold.{Fit, StateView, most, state_after, layout_in}
 use Rattle.live_state.specs.Shows.{Shows}
 use Rattle.live_state.specs.declared.layout.Layout.{Layout}
 use Rattle.live_state.proofs.Live.{shows_all}
-use Rattle.octo_engine.specs.Looks.{layout_in}
 use Rattle.octo_engine.proofs.Outcomes.{told_len}
 use Rattle.thread_law.specs.Ran.{AreAnswers, HasRan, marked_by, settled_of}
 use Rattle.thread_law.proofs.Fitting.{all_fit, fit_values, fold_of}

@@ -15,10 +15,9 @@ use Rattle.push_history.specs.Journal.{rules_in}
 use Rattle.push_lane.specs.Views.{LaneView}
 use Rattle.push_rule.specs.Stands.{PrivateView}
 use Rattle.aggregate.specs.Takens.{AreTaken}
-use Rattle.live_state.specs.Fold.{Fit, most, state_after}
+use Rattle.live_state.specs.Fold.{Fit, most, state_after, layout_in}
 use Rattle.live_state.specs.declared.layout.Layout.{Layout}
 use Rattle.live_view.specs.Views.{WriterView}
-use Rattle.octo_engine.specs.Looks.{layout_in}
 use Rattle.thread_ends.specs.Ends.{both_fulls, both_sents}
 use Rattle.thread_law.specs.Ran.{AreAnswers}
 use Rattle.thread_run.specs.declared.parts.ReaderPart.{ReaderPart}

@@ -7,8 +7,7 @@ use Rattle.hash_rows.specs.declared.shape.Push.{Push}
 use Rattle.hash_rows.specs.Rules.{Rules}
 use Rattle.push_lane.specs.Views.{LaneView}
 use Rattle.aggregate.specs.Takens.{AreTaken}
-use Rattle.live_state.specs.Fold.{Fit, state_after}
-use Rattle.octo_engine.specs.Looks.{layout_in}
+use Rattle.live_state.specs.Fold.{Fit, state_after, layout_in}
 use Rattle.thread_engine.specs.Tellings.{HaveToldAll}
 use Rattle.thread_ends.specs.Ends.{both_fulls, both_sents}
 use Rattle.thread_law.specs.Ran.{AreAnswers}

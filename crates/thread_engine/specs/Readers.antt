@@ -1,4 +1,5 @@
 -- What a reader saw of what was published.
+use Rattle.live_state.specs.Fold.{layout_in}
 use Rattle.std.specs.Prelude.{◌≡◌, ◌<◌, ℕ, List, length, slice_index_or}
 use mathlib.Core.List.{IsPrefix}
 use Rattle.hash_rows.specs.declared.answer.Answer.{Answer}
@@ -7,7 +8,6 @@ use Rattle.hash_rows.specs.declared.shape.Push.{Push}
 use Rattle.hash_rows.specs.Rules.{Rules}
 use Rattle.push_history.specs.Journal.{keys_of}
 use Rattle.live_view.specs.Views.{ReaderView}
-use Rattle.octo_engine.specs.Looks.{layout_in}
 use Rattle.thread_run.specs.Readers.{AreAsked}
 
 -- reader q made all its asks, and what its view knows begins what was published

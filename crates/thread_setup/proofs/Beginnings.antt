@@ -1,4 +1,5 @@
 -- One worker more, one answer more, and one reader more.
+use Rattle.live_state.specs.Fold.{layout_in}
 use Rattle.std.proofs.Common.{◌≡◌, ◌<◌, ℕ, ℤ, ◌+◌, List, [], ◌∷◌, ◌++◌, length, map, get_or, All, refl, sym, ap, ap₂, ◌∙◌, subst, arith}
 use Rattle.std.specs.Prelude.{pos, replicate}
 use Rattle.std.proofs.lemmas.List.{get_or_append_left, get_or_push, length-replicate, length_push, map-append}
@@ -13,7 +14,6 @@ use Rattle.live_state.specs.Copies.{HasRoomFor}
 use Rattle.live_state.specs.declared.layout.Layout.{Layout}
 use Rattle.live_view.specs.Views.{ReaderView, WriterView}
 use Rattle.octo_engine.proofs.Beginning.{grown}
-use Rattle.octo_engine.specs.Looks.{layout_in}
 use Rattle.packet_key.specs.declared.key.FlowKey.{FlowKey}
 use Rattle.push_history.specs.Journal.{keys_of}
 use Rattle.push_history.specs.Share.{share_of_worker}

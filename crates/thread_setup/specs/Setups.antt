@@ -7,9 +7,8 @@ use Rattle.hash_rows.specs.declared.options.Options.{Options}
 use Rattle.hash_rows.specs.declared.shape.Packet.{Packet}
 use Rattle.hash_rows.specs.Rules.{Rules}
 use Rattle.live_state.specs.Copies.{HasRoomFor}
-use Rattle.live_state.specs.Fold.{fresh_state}
+use Rattle.live_state.specs.Fold.{fresh_state, layout_in}
 use Rattle.live_view.specs.Views.{ReaderView, WriterView}
-use Rattle.octo_engine.specs.Looks.{layout_in}
 use Rattle.push_history.specs.Journal.{keys_of}
 use Rattle.push_history.specs.Share.{share_of_worker}
 use Rattle.thread_run.specs.declared.parts.ReaderPart.{ReaderPart}

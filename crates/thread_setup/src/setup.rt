@@ -1,7 +1,7 @@
 //! What a run in threads begins with.
+ghost use Rattle.live_state.specs.Fold.{layout_in};
 ghost use Rattle.std.specs.Prelude.{◌≡◌, ◌<◌, ◌≤◌, ◌^◌, [], All, length, IfOk, OnOk};
 ghost use Rattle.hash_rows.specs.Lawful.{IsLawful};
-ghost use Rattle.octo_engine.specs.Looks.{layout_in};
 ghost use Rattle.thread_setup.specs.Setups.{IsFreshView, IsSetUp};
 
 use crate::hands::{Lanes, hands_of};

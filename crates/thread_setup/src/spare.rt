@@ -2,8 +2,7 @@
 ghost use Rattle.std.specs.Prelude.{◌≡◌, length, IfOk};
 ghost use Rattle.hash_rows.specs.Lawful.{IsLawful};
 ghost use Rattle.push_history.specs.Journal.{keys_of};
-ghost use Rattle.live_state.specs.Fold.{fresh_state};
-ghost use Rattle.octo_engine.specs.Looks.{layout_in};
+ghost use Rattle.live_state.specs.Fold.{fresh_state, layout_in};
 ghost use Rattle.thread_setup.specs.Setups.{IsSpare};
 
 use flow_base::NoMemory;

@@ -12,7 +12,7 @@ use Rattle.push_history.specs.Pushes.{LawfulPushes}
 use Rattle.push_history.specs.Told.{told_of}
 use Rattle.push_history.specs.Whole.{whole_of}
 use Rattle.push_history.proofs.Lawfuls.{lawful_counted, lawful_refused, lawful_sent}
-use Rattle.push_lane.specs.Views.{InView, one_more}
+use Rattle.push_lane.specs.Views.{InView, one_more_or_last}
 use Rattle.push_rule.specs.Stands.{PrivateView, StandsFor, StandsAt, Owes}
 use Rattle.push_rule.proofs.Standing.{whole_own}
 use Rattle.thread_work.specs.Worked.{HasTold}
@@ -96,7 +96,7 @@ module _ {H : Type 0} (stands : H → ℤ → ℤ → Type 0) (r : Rules) (w L :
   -- the push was refused
   pub told_refused : (mid new : PrivateView H) (after : InView) → old.counted < 2 ^ 32 → StandsFor stands r mid (U ++ u ∷ []) pass.sent h.refused
       → new.threshold ≡ old.threshold → old.threshold ≤ far_next → full ≡ Leave → L ≤ length pass.sent
-      → after.sent ≡ pass.sent → after.fulls ≡ one_more pass.fulls
+      → after.sent ≡ pass.sent → after.fulls ≡ one_more_or_last pass.fulls
       → ((updates : List Update) (messages : List Push) (refused : List ℕ) → StandsFor stands r mid updates messages refused → StandsFor stands r new updates messages (refused ++ (mid.counted - 1) ∷ []))
       → HasTold stands r w L full new after (U ++ u ∷ [])
   told_refused mid new after small stood threshold far leave many sent fulls clause =

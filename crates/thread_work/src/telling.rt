@@ -2,7 +2,7 @@
 ghost use Rattle.std.specs.Prelude.{◌≡◌, ◌<◌, ◌≤◌, ◌+◌, ◌^◌, [], ◌∷◌, ◌++◌, List, length, true, None, MatchBool};
 ghost use Rattle.hash_rows.specs.declared.options.Full.TheVariants.{Leave};
 ghost use Rattle.hash_rows.specs.declared.shape.Update.{Update};
-ghost use Rattle.push_lane.specs.Views.{one_more};
+ghost use Rattle.push_lane.specs.Views.{one_more_or_last};
 ghost use Rattle.thread_work.specs.Worked.{HasTold, KeepsSketch};
 
 use hash_rows::{Full, Kind, Push, Update};
@@ -17,7 +17,7 @@ fn send<R: Wait>(rt: &R, full: Full, lane: &Lane, pass: &mut InPass, message: Pu
     ensures lane { pass.new.id ≡ pass.old.id }
     ensures sent { MatchBool result
         ((pass.new.sent ≡ pass.old.sent ++ message ∷ []) × (full ≡ Leave → pass.new.fulls ≡ pass.old.fulls))
-        ((full ≡ Leave) × (pass.new.sent ≡ pass.old.sent) × (pass.new.fulls ≡ one_more pass.old.fulls)
+        ((full ≡ Leave) × (pass.new.sent ≡ pass.old.sent) × (pass.new.fulls ≡ one_more_or_last pass.old.fulls)
         × (lane.now.capacity ≤ length pass.old.sent)) }
 {
     match full {

@@ -1,3 +1,4 @@
+use Rattle.push_history.specs.LagRun.{is_wait}
 use Rattle.std.proofs.Common.{rules, ◌≡◌, ◌≢◌, ◌∙◌, ℕ, get_or, length, if◌then◌else◌, sym, ap}
 use Rattle.std.specs.Prelude.{Option, Some}
 use Rattle.std.proofs.lemmas.Option.{get_or_from_slice_get}
@@ -5,7 +6,6 @@ use Rattle.octo_text.specs.Content.{content_of}
 use Rattle.audit_law.specs.declared.failure.Failure.{Failure}
 use Rattle.audit_law.specs.declared.failure.Value.TheVariants.{Number}
 use Rattle.audit_law.specs.LineNumbers.{worker_line}
-use Rattle.audit_law.specs.WorkerTests.{is_wait}
 use Rattle.journal_audit.proofs.WorkerCases.{pushes_is, pushes_fail, waits_fail, then_refused, refused_count}
 use Rattle.journal_audit.proofs.workers.worker_failure.Goals as goal
 

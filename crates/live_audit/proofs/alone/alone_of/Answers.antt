@@ -1,8 +1,7 @@
 use Rattle.std.proofs.Common.{rules, arith, ◌≡◌, ◌∙◌, true, sym, ap}
-use Rattle.live_state.specs.Fold.{StateView}
+use Rattle.live_state.specs.Fold.{StateView, layout_in}
 use Rattle.live_state.proofs.Live.{shows_all}
 use Rattle.told_table.specs.Tables.{all_messages}
-use Rattle.live_audit.specs.Alone.{layout_in}
 use Rattle.live_audit.proofs.Counting.{all_few, all_fit}
 use Rattle.live_audit.proofs.alone.alone_of.Goals as goal
 

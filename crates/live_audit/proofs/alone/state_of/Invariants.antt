@@ -1,7 +1,6 @@
 use Rattle.std.proofs.Common.{◌≡◌, take}
-use Rattle.live_state.specs.Fold.{state_after}
+use Rattle.live_state.specs.Fold.{state_after, layout_in}
 use Rattle.told_table.specs.Tables.{all_messages}
-use Rattle.live_audit.specs.Alone.{layout_in}
 use Rattle.live_audit.proofs.alone.state_of.Given as goal
 
 abbrev pub invariant-loop-list : goal.invariant-loop-list

@@ -1,8 +1,8 @@
 use Rattle.std.proofs.Common.{◌≡◌, ◌-◌, ℕ, length}
 use Rattle.push_history.specs.LagRun.{Terms}
-use Rattle.live_state.specs.Fold.{state_after}
+use Rattle.live_state.specs.Fold.{state_after, layout_in}
 use Rattle.round_law.specs.OwnRounds.{folded_after}
-use Rattle.octo_engine.specs.Looks.{AreLooks, AreMoreLooks, Runs, layout_in}
+use Rattle.octo_engine.specs.Looks.{AreLooks, AreMoreLooks, Runs}
 use Rattle.octo_engine.proofs.looks.look_at_end.Given as goal
 
 abbrev pub invariant-looks : goal.invariant-looks

@@ -1,7 +1,7 @@
 use Rattle.std.proofs.Common.{◌≡◌, ◌∙◌, ◌+◌, ap, subst, arith}
-use Rattle.live_state.specs.Fold.{state_after}
+use Rattle.live_state.specs.Fold.{state_after, layout_in}
 use Rattle.round_law.specs.OwnRounds.{folded_after}
-use Rattle.octo_engine.specs.Looks.{AreLooks, layout_in}
+use Rattle.octo_engine.specs.Looks.{AreLooks}
 use Rattle.octo_engine.proofs.Rounding.{state_more}
 use Rattle.octo_engine.specs.Parts.{block}
 use Rattle.octo_engine.proofs.rounds.fold_block.Goals as goal

@@ -2,9 +2,9 @@ use Rattle.std.proofs.Common.{◌≡◌, ◌<◌, ◌+◌, ℕ}
 use Rattle.std.specs.List.{flat_map, range_with_len}
 use Rattle.push_history.specs.LagRun.{Terms, fresh_worker}
 use Rattle.push_history.specs.OwnSteps.{folded_in_round}
-use Rattle.live_state.specs.Fold.{state_after}
+use Rattle.live_state.specs.Fold.{state_after, layout_in}
 use Rattle.round_law.specs.OwnRounds.{folded_after, own_rounds}
-use Rattle.octo_engine.specs.Looks.{AreLooks, Runs, layout_in}
+use Rattle.octo_engine.specs.Looks.{AreLooks, Runs}
 use Rattle.octo_engine.specs.Parts.{block, messages_in}
 use Rattle.octo_engine.proofs.rounds.fold_block.Given as goal
 

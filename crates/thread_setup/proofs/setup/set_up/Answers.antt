@@ -1,8 +1,8 @@
+use Rattle.live_state.specs.Fold.{layout_in}
 use Rattle.std.proofs.Common.{◌≡◌, ◌∙◌, ap, arith, length, get_or, refl, subst, sym}
 use Rattle.aggregate.proofs.Kept.{ends_len}
 use Rattle.aggregate.specs.Takens.{ArePassesOf}
 use Rattle.live_view.specs.Views.{WriterView}
-use Rattle.octo_engine.specs.Looks.{layout_in}
 use Rattle.thread_run.specs.Workers.{AreReady}
 use Rattle.thread_setup.specs.Setups.{AreReaders}
 use Rattle.thread_setup.proofs.Beginnings.{have_room}

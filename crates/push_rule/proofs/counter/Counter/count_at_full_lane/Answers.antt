@@ -1,8 +1,7 @@
 use Rattle.std.proofs.Common.{◌≡◌, ◌≤◌, ◌∙◌, sym, subst, true}
 use Rattle.std.specs.Prelude.{◌&&◌, nat_le}
-use Rattle.push_history.specs.LagRun.{updates_by}
+use Rattle.push_history.specs.LagRun.{updates_by, is_wait}
 use Rattle.push_history.specs.Pushes.{distance_at}
-use Rattle.push_rule.specs.Counters.{is_wait}
 use Rattle.push_rule.proofs.CounterSteps.{after_waits, distance_is, wait_of}
 use Rattle.push_rule.proofs.counter.Counter.count_at_full_lane.Goals as goal
 

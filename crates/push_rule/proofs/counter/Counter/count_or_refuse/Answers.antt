@@ -1,8 +1,9 @@
+use Rattle.push_history.specs.LagRun.{is_wait}
 use Rattle.std.proofs.Common.{rules, ◌≡◌, ◌≤◌, ◌∙◌, sym, ap, subst, refl, false, w64, length}
 use Rattle.std.specs.Prelude.{◌&&◌, nat_le, Some, None}
 use Rattle.std.proofs.lemmas.Int.{to_z-of_z}
 use mir.Val.{SFits}
-use Rattle.push_rule.specs.Counters.{CounterView, is_wait, in_lane}
+use Rattle.push_rule.specs.Counters.{CounterView, in_lane}
 use Rattle.push_rule.specs.Keeps.{Keeps}
 use Rattle.push_rule.proofs.CounterSteps.{owes_next, counted_next, refused_next, after_quiet, after_refused, distance_is, leave_of}
 use Rattle.push_rule.proofs.counter.Counter.count_or_refuse.Goals as goal

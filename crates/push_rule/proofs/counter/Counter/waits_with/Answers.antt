@@ -2,9 +2,9 @@ use Rattle.std.proofs.Common.{rules, ◌≡◌, ◌∙◌, sym, ap, subst, true,
 use Rattle.std.specs.Prelude.{◌&&◌, nat_le}
 use Rattle.std.proofs.lemmas.Int.{to_z-of_z}
 use mir.Val.{SFits}
-use Rattle.push_history.specs.LagRun.{updates_by}
+use Rattle.push_history.specs.LagRun.{updates_by, is_wait}
 use Rattle.push_history.specs.Pushes.{distance_at}
-use Rattle.push_rule.specs.Counters.{CounterView, is_wait}
+use Rattle.push_rule.specs.Counters.{CounterView}
 use Rattle.push_rule.specs.Keeps.{Keeps}
 use Rattle.push_rule.proofs.CounterSteps.{due_is}
 use Rattle.push_rule.proofs.counter.Counter.waits_with.Goals as goal
