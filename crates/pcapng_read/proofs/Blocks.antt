@@ -1,4 +1,4 @@
--- Blocks walk_past blocks, and what stands walk_past bytes that hold a refusal.
+-- Blocks behind blocks, and what stands behind bytes that hold a refusal.
 use Rattle.std.proofs.Common.{◌≡◌, ◌≤◌, ◌<◌, ℕ, ◌-◌, ◌==◌, List, [], ◌∷◌, ◌++◌, length, Some, None, Bool, true, false, refl, sym, ap, ◌∙◌, subst, arith, append_assoc, length-append, nat_lt, if◌then◌else◌}
 use Rattle.std.specs.List.{flat_map}
 use Rattle.std.proofs.lemmas.List.{append-nil}
@@ -30,7 +30,7 @@ pub flat_push : {X Y : Type 0} (f : X → List Y) (xs : List X) (x : X) → flat
 flat_push f [] x = append-nil (f x)
 flat_push f (y ∷ ys) x = ap (λ (t : List _). f y ++ t) (flat_push f ys x) ∙ sym (append_assoc (f y) (flat_map f ys) (f x))
 
--- what is known of a block stays with more bytes walk_past it
+-- what is known of a block stays with more bytes behind it
 pub known_stays : (limit : ℕ) (w : Walk) (x y : List ℕ) (plan : Plan) → judged limit w x ≡ Known plan → judged limit w (x ++ y) ≡ Known plan
 known_stays limit w x y plan known = subst (λ (j : Judged). Goes limit w j (judged limit w (x ++ y))) known (judged_goes limit w x y)
 
@@ -66,7 +66,7 @@ refusal_by_stays limit w x y (Known plan) bad is e =
     let same = number_at_append plan.order 4 x y (plan.total - 4) (omega (arith, long, sound.room)) in
     ap (refusal_by w (x ++ y)) (known_stays limit w x y plan is) ∙ rw (more, same, h.1) (ap Some h.2)
 
--- what a block is refused for stays with more bytes walk_past
+-- what a block is refused for stays with more bytes behind
 pub refusal_stays_block : (limit : ℕ) (w : Walk) (x y : List ℕ) (bad : NgBad) → block_refusal limit w x ≡ Some bad → block_refusal limit w (x ++ y) ≡ Some bad
 refusal_stays_block limit w x y bad e = refusal_by_stays limit w x y (judged limit w x) bad refl e
 

@@ -17,7 +17,7 @@ has_order w order total (Interface snapshot) = refl
 has_order w order total (Packet at captured original) = refl
 has_order w order total Passed = refl
 
--- walk_past blocks there is an order
+-- behind blocks there is an order
 still_order : (w : Walk) (bs : List Block) (order : Order) → w.order ≡ Some order → (walk_behind w bs).order ≡ None → ⊥
 still_order w [] order is none = let e : Some order ≡ None = sym is ∙ none in absurd (cc)
 still_order w (b ∷ bs) order is none = still_order (walk_past w b.plan) bs b.plan.order (has_order w b.plan.order b.plan.total b.plan.body) none

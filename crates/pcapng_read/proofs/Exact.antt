@@ -32,7 +32,7 @@ blocks_front limit w (b ∷ bs) (c ∷ cs) x y ab ac stop e =
     (subst (λ (v : Walk). Stops limit (walk_behind v cs) y) (sym here) stop) same.1 in
     (others.0, ap (λ (t : Block). t ∷ cs) (sym same.0) ∙ ap (λ (t : List Block). b ∷ t) others.1)
 
--- a packet that is whole comes before the refusals walk_past it
+-- a packet that is whole comes before the refusals behind it
 packet_first : (view : NgReaderView) (a z : List ℕ) (fs : List Framed) (next : Framed) (bad : NgBad) → Stands view a (fs ++ next ∷ []) → RefusesNext view.limit (a ++ z) fs bad → ⊥
 packet_first view a z fs next bad h r =
     let parts : flat_map text h.blocks ++ (h.rest ++ z) ≡ flat_map text r.blocks ++ r.rest =

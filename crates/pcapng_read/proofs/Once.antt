@@ -48,7 +48,7 @@ cut_once limit w (b ∷ bs) (c ∷ cs) x y ab ac sx sy e =
     (subst (λ (v : Walk). Stops limit (walk_behind v cs) y) (sym here) sy) same.1 in
     (ap (λ (t : Block). t ∷ bs) same.0 ∙ ap (λ (t : List Block). c ∷ t) others.0, others.1)
 
--- how far walk_past blocks that are all whole
+-- how far behind blocks that are all whole
 pub record Cut (limit : ℕ) (bytes : List ℕ) (blocks : List Block) (rest : List ℕ) : Type 0 where
   pub parts : bytes ≡ flat_map text blocks ++ rest
   pub each : AreBlocks limit start blocks
@@ -80,7 +80,7 @@ cuts_fine limit bytes bs x gs bad cut r =
 pub capture_fine : (limit : ℕ) (bytes : List ℕ) (fs gs : List Framed) (x : List ℕ) (bad : NgBad) → IsNgCapture limit bytes fs x → RefusesNext limit bytes gs bad → ⊥
 capture_fine limit bytes fs gs x bad a r = cuts_fine limit bytes a.blocks x gs bad a.cut r
 
--- a list of bytes has one refusal at most, walk_past one list of packets
+-- a list of bytes has one refusal at most, behind one list of packets
 pub one_refusal : (limit : ℕ) (bytes : List ℕ) (fs gs : List Framed) (p q : NgBad) → RefusesNext limit bytes fs p → RefusesNext limit bytes gs q → (fs ≡ gs) × (p ≡ q)
 one_refusal limit bytes fs gs p q a b =
     let same = same_cut limit bytes a.blocks b.blocks a.rest b.rest (cut_refused limit bytes fs p a) (cut_refused limit bytes gs q b) in

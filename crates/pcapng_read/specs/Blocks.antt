@@ -22,7 +22,7 @@ start = record { order = None; interfaces = 0; snapshot = 0; packets = 0; others
 abbrev pub section_type : ℕ
 section_type = 0x0a0d0d0a
 
--- the order of a section's numbers, by the magic number walk_past its total length
+-- the order of a section's numbers, by the magic number behind its total length
 unfoldable pub section_order : ℕ → Option Order
 section_order magic = if magic == 0x4d3c2b1a then Some Little else if magic == 0x1a2b3c4d then Some Big else None
 
@@ -120,7 +120,7 @@ passed_judged limit w order total =
     else if not (is_length 12 total) then Refused (BadBlock (told_offset w) total)
     else Known (plan_of order total Passed)
 
--- a block walk_past the first section's header, by its type
+-- a block behind the first section's header, by its type
 unfoldable pub block_judged : ℕ → Walk → Order → List ℕ → ℕ → Judged
 block_judged limit w order x type =
     if type == section_type then section_judged limit w x
@@ -152,7 +152,7 @@ keep_in Passed = 8
 abbrev pub keep_of : Plan → ℕ
 keep_of plan = keep_in plan.body
 
--- what stands walk_past a block: a section's header sets the order and drops the interfaces
+-- what stands behind a block: a section's header sets the order and drops the interfaces
 abbrev pub behind_by : Walk → Order → ℕ → Body → Walk
 behind_by w order total Section =
     record { order = Some order; interfaces = 0; snapshot = 0; packets = w.packets; others = w.others + 1; offset = w.offset + total }

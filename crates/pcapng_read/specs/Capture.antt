@@ -27,11 +27,11 @@ pub record IsBlock (limit : ℕ) (w : Walk) (b : Block) : Type 0 where
   pub whole : length b.bytes ≡ b.plan.total
   pub ends : number_at b.plan.order 4 b.bytes (b.plan.total - 4) ≡ b.plan.total
 
--- what stands walk_past blocks
+-- what stands behind blocks
 abbrev pub walk_behind : Walk → List Block → Walk
 walk_behind w blocks = fold (λ (v : Walk) (b : Block). walk_past v b.plan) w blocks
 
--- each is a block walk_past those before it
+-- each is a block behind those before it
 unfoldable pub AreBlocks : ℕ → Walk → List Block → Type 0
 AreBlocks limit w [] = Unit {0}
 AreBlocks limit w (b ∷ bs) = IsBlock limit w b × AreBlocks limit (walk_past w b.plan) bs
@@ -65,7 +65,7 @@ pub record IsNgCapture (limit : ℕ) (bytes : List ℕ) (frames : List Framed) (
   pub cut : Cuts limit bytes blocks rest
   pub frames_are : frames ≡ flat_map framed blocks
 
--- this refusal stands walk_past these packets, and before the end of the next one
+-- this refusal stands behind these packets, and before the end of the next one
 pub record RefusesNext (limit : ℕ) (bytes : List ℕ) (frames : List Framed) (bad : NgBad) : Type 0 where
   pub blocks : List Block
   pub rest : List ℕ
@@ -78,7 +78,7 @@ pub record RefusesNext (limit : ℕ) (bytes : List ℕ) (frames : List Framed) (
 abbrev pub Refuses : ℕ → List ℕ → NgBad → Type 0
 Refuses limit bytes bad = (frames : List Framed) × RefusesNext limit bytes frames bad
 
--- what a whole input is: packets with the number of rest bytes walk_past the last block, or the one refusal
+-- what a whole input is: packets with the number of rest bytes behind the last block, or the one refusal
 pub data NgOutcome : Type 0 where
   NgWhole : List Framed → ℕ → NgOutcome
   NgRefused : NgBad → NgOutcome

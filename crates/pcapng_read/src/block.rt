@@ -93,7 +93,7 @@ impl Walk {
     pub fn behind(&self, plan: &Plan) -> Walk
         requires counted { HasRoomForBlock self.now }
         requires room { HasRoom self.now plan.now }
-        ensures walk_past { result ≡ walk_past self.now plan.now }
+        ensures behind { result ≡ walk_past self.now plan.now }
         ensures counted { HasRoomForBlock result }
     {
         let offset = self.offset + u128::from(plan.total);
