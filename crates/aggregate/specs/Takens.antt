@@ -11,6 +11,7 @@ use Rattle.live_state.specs.declared.layout.Layout.{Layout}
 abbrev pub ArePassesOf : List LaneView → List OutView → Type 0
 ArePassesOf lanes outs = map (λ (o : OutView). o.id) outs ≡ map (λ (l : LaneView). l.id) lanes
 
+-- what each pass took
 abbrev pub takens : List OutView → List (List Push)
 takens outs = map (λ (o : OutView). o.taken) outs
 

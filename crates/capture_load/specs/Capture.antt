@@ -24,6 +24,7 @@ pub data Outcome : Type 0 where
   Whole : List Framed → ℕ → Outcome
   Refused : Refusal → Outcome
 
+-- what the bytes are as a whole: frames with so many cut bytes behind them, or the one refusal, of either format
 abbrev pub CaptureOf : ℕ → List ℕ → Outcome → Type 0
 CaptureOf limit bytes (Whole frames cut) =
     (IsNg bytes × NgCaptureOf limit bytes (NgWhole frames cut)) ⊎ ((IsNg bytes → ⊥) × PcapCaptureOf limit bytes (PcapWhole frames cut))

@@ -47,6 +47,7 @@ pub record PcapNoted (reader : Place) (notes : Notes) (bytes : List ℕ) (frames
   pub stands : Stands reader bytes frames
   pub keeps : KeepsPackets notes frames
 
+-- the pcapng reader has taken these bytes, and the packets of the frames that it lent are kept
 pub record NgNoted (reader : NgReaderView) (notes : Notes) (bytes : List ℕ) (frames : List Framed) : Type 0 where
   pub stands : NgStands reader bytes frames
   pub keeps : KeepsPackets notes frames
@@ -72,6 +73,7 @@ IsCounted (Open matched) number = (matched < 4) × (number ≡ 0)
 IsCounted (Pcap reader) number = (reader.limit ≡ record_limit) × (number ≡ reader.count) × (reader.count ≤ record_limit)
 IsCounted (Ng reader) number = (reader.limit ≡ record_limit) × (number ≡ reader.walk.packets) × (reader.walk.packets ≤ record_limit)
 
+-- the frames that were noted are those that the reader counted
 abbrev pub Counts : Loading → Type 0
 Counts loading = IsCounted loading.format (number_of loading.notes)
 
@@ -92,6 +94,7 @@ PcapStops bytes (BadStop bad) = (frames : List Framed) × PcapRefusesNext record
 PcapStops bytes (NgStop bad) = ⊥
 PcapStops bytes NoMemory = Unit {0}
 
+-- why a load of pcapng bytes stops
 abbrev pub NgStops : List ℕ → LoadStop → Type 0
 NgStops bytes ReadFault = ⊥
 NgStops bytes (BadStop bad) = ⊥

@@ -21,24 +21,30 @@ abbrev pub packet_by : Amount → ℕ → Result FlowKey Skip → Option Packet
 packet_by amount original (Ok key) = Some (record { key = key; amount = amount_of amount original })
 packet_by amount original (Err why) = None
 
+-- what a frame counts for; nothing, where it has no key
 abbrev pub packet_in : Amount → Framed → Option Packet
 packet_in amount frame = packet_by amount frame.original (key_of frame.bytes)
 
+-- what some frames count for, in their order
 unfoldable pub packets_of : Amount → List Framed → List Packet
 packets_of amount frames = filter_map (packet_in amount) frames
 
+-- whether a frame ends before its key does
 abbrev pub is_short : Result FlowKey Skip → Bool
 is_short (Err ShortFrame) = true
 is_short _ = false
 
+-- whether a frame holds another protocol than IP
 abbrev pub is_not_ip : Result FlowKey Skip → Bool
 is_not_ip (Err (NotIp ethertype)) = true
 is_not_ip _ = false
 
+-- whether a frame's IP header is wrong
 abbrev pub is_bad_ip : Result FlowKey Skip → Bool
 is_bad_ip (Err BadIp) = true
 is_bad_ip _ = false
 
+-- whether a frame has more tags than are read
 abbrev pub is_tagged : Result FlowKey Skip → Bool
 is_tagged (Err ManyTags) = true
 is_tagged _ = false

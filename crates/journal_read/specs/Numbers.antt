@@ -13,6 +13,7 @@ abbrev pub number_from : ℕ → List ℕ → ℕ × List ℕ
 number_from n [] = (n, [])
 number_from n (b ∷ bs) = if is_ascii_digit b then number_from (with_digit n b) bs else (n, b ∷ bs)
 
+-- the number that the text's first digits write, and what stands behind them
 abbrev pub number_at : List ℕ → ℕ × List ℕ
 number_at text = number_from 0 text
 

@@ -17,17 +17,20 @@ pub record IsSketchOf (o : Options) (said : SketchWords) : Type 0 where
   pub shape : said.shape ≡ o.shape
   pub amount : said.amount ≡ o.amount
 
+-- the words on shares are those of the options
 pub record IsShareOf (o : Options) (said : ShareWords) : Type 0 where
   pub share : said.share ≡ o.share
   pub workers : said.workers ≡ o.workers
   pub threshold : said.threshold ≡ o.threshold
 
+-- the words on lanes and rounds are those of the options
 pub record AreLanesOf (o : Options) (said : LaneWords) : Type 0 where
   pub lane : said.lane ≡ o.lane
   pub batch : said.batch ≡ o.batch
   pub round : said.round ≡ o.round
   pub full : said.full ≡ o.full
 
+-- the words on readers and heavy keys are those of the options
 pub record AreQueriesOf (o : Options) (said : QueryWords) : Type 0 where
   pub mode : said.mode ≡ o.mode
   pub readers : said.readers ≡ o.readers

@@ -7,6 +7,7 @@ use Rattle.hash_rows.specs.declared.shape.Push.{Push}
 abbrev pub HoldsLength : List Cell → List Push → Type 0
 HoldsLength cells log = cells ≡ (length log, true) ∷ (0, true) ∷ []
 
+-- the name of the book's first word
 abbrev pub head_of : Book → Named
 head_of b = record { tracked = true; key = 0; book = b }
 

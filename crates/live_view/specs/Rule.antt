@@ -14,15 +14,19 @@ use Rattle.live_view.specs.declared.rule.Notes.{Notes}
 use Rattle.live_view.specs.declared.rule.Pair.{Pair}
 use Rattle.live_view.specs.declared.rule.Name.{Name}
 
+-- what a seat knows
 abbrev pub notes : List Push → Option Pair → Notes
 notes known pair = record { known = known; pair = pair }
 
+-- what a book is known by
 abbrev pub name_of : Book → Name
 name_of b = record { number = b.number; log_name = b.log_name; cells_name = b.cells_name }
 
+-- what a writer and its readers agree on
 abbrev pub paired : Book → Layout → Pair
 paired b z = record { book = name_of b; layout = z }
 
+-- the same of what is published
 abbrev pub pair_of : PublishedView → Pair
 pair_of p = paired p.history.book (layout_of p.figures)
 
@@ -46,6 +50,7 @@ pub record Entered (r : Rules) (v : Notes) (p : PublishedView) (w : Notes) : Typ
 abbrev pub turned : Rules → PublishedView → Entry → PublishedView
 turned r p e = record { figures = absorbed r p.figures e.message; history = e.stamp }
 
+-- the messages of some entries
 abbrev pub messages : List Entry → List Push
 messages es = map (λ (e : Entry). e.message) es
 

@@ -6,6 +6,7 @@ use Rattle.hash_rows.specs.declared.shape.Push.{Push}
 use Rattle.hash_rows.specs.declared.shape.Shape.{Shape}
 use Rattle.live_state.specs.declared.layout.Layout.{Layout}
 
+-- a book, and the messages that it tells of
 pub record History : Type 0 where
   pub book : Book
   pub log : List Push
@@ -30,11 +31,13 @@ pub record WriterView : Type 0 where
   pub published : List Push
   pub pending : List Push
 
+-- what a reader is of, and the messages that it knows of
 pub record ReaderView : Type 0 where
   pub book : Book
   pub layout : Layout
   pub known : List Push
   pub told : List Push
 
+-- what a published state is made for
 abbrev pub layout_for : Shape → ℕ → ℕ → ℤ → Layout
 layout_for shape workers heavy least = record { shape = shape; workers = workers; heavy = heavy; least = least }

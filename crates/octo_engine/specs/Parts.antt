@@ -40,6 +40,7 @@ module _ {Held : Type 0} where
     pub folded : (k : ℕ) → k < n → cut_at ends k d.queue ≡ folded_in_round t o w (own_rounds t o w k x)
 
 module _ {K Held : Type 0} where
+  -- the part's messages that are folded in a round of the block
   abbrev pub messages_in : ℕ → Part K Held → List Push
   messages_in k p = cut_at p.ends.items k p.counter.queue
 

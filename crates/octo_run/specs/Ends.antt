@@ -15,6 +15,7 @@ pub record Side : Type 0 where
   pub bytes : Option (List ℕ)
   pub faults : ℕ
 
+-- what an output holds, and how many faults it had
 abbrev pub side : Option (List ℕ) → ℕ → Side
 side bytes faults = record { bytes = bytes; faults = faults }
 

@@ -19,11 +19,13 @@ use Rattle.octo_run.specs.declared.faults.Fault.{Fault}
 use Rattle.octo_run.specs.declared.faults.Fault.TheVariants.{Usage as UsageFault, ReadFault as SourceFault, WriteFault as SinkFault}
 use Rattle.octo_run.specs.declared.faults.Fault.TheVariants.{Bad as BadFault, BadLine as LineFault, NoMemory as MemoryFault, Differs as JournalFault}
 
+-- the exit status of a refusal
 abbrev pub status_of_bad : Refusal → Status
 status_of_bad (Pcap TooManyRecords) = TooMany
 status_of_bad (Ng TooManyBlocks) = TooMany
 status_of_bad _ = BadCapture
 
+-- the exit status of a fault
 abbrev pub status_of : Fault → Status
 status_of UsageFault = Usage
 status_of SourceFault = ReadFault
@@ -67,10 +69,12 @@ ng_text (NgLink link) = pcap_text (NotEthernet link)
 ng_text (NgLong offset length) = pcap_text (TooLong offset length)
 ng_text TooManyBlocks = pcap_text TooManyRecords
 
+-- what a refusal is told as
 unfoldable pub bad_text : Refusal → List ℕ
 bad_text (Pcap bad) = pcap_text bad
 bad_text (Ng bad) = ng_text bad
 
+-- what a fault is told as
 unfoldable pub fault_text : Fault → List ℕ
 fault_text UsageFault = codes "octo: usage"
 fault_text SourceFault = codes "octo: read fault"

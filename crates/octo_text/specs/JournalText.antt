@@ -62,6 +62,7 @@ worker_lines worker =
 unfoldable pub spaced : ℕ → List ℕ
 spaced number = codes " " ++ decimal number
 
+-- a space and the number, with a sign where it is below zero
 unfoldable pub spaced_signed : ℤ → List ℕ
 spaced_signed number = codes " " ++ signed_decimal number
 

@@ -18,6 +18,7 @@ pub record Record : Type 0 where
   pub head : List ℕ
   pub bytes : List ℕ
 
+-- the record's bytes, its head first
 abbrev pub text : Record → List ℕ
 text r = r.head ++ r.bytes
 
@@ -25,9 +26,11 @@ text r = r.head ++ r.bytes
 abbrev pub captured : Order → List ℕ → ℕ
 captured order bytes = number_at order 4 bytes 8
 
+-- the length that the packet had on the wire
 abbrev pub original : Order → List ℕ → ℕ
 original order bytes = number_at order 4 bytes 12
 
+-- a head, and as many bytes as it tells of, which aren't too many
 pub record IsRecord (order : Order) (r : Record) : Type 0 where
   pub head : length r.head ≡ head_len
   pub bytes : length r.bytes ≡ captured order r.head
@@ -38,6 +41,7 @@ pub record Framed : Type 0 where
   pub original : ℕ
   pub bytes : List ℕ
 
+-- what is lent of a record
 abbrev pub frame_of : Order → Record → Framed
 frame_of order r = record { original = original order r.head; bytes = r.bytes }
 

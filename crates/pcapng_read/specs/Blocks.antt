@@ -42,6 +42,7 @@ told_offset w = w.offset % 18446744073709551616
 abbrev pub need : ℕ → List ℕ → Judged → Judged
 need n x next = if nat_lt (length x) n then Waits n else next
 
+-- what is known of a block from its front
 abbrev pub plan_of : Order → ℕ → Body → Plan
 plan_of order total body = record { order = order; total = total; body = body }
 
@@ -139,6 +140,7 @@ unfoldable pub judged_in : ℕ → Walk → List ℕ → Option Order → Judged
 judged_in limit w x None = need 4 x (first_judged limit w x (number_at Big 4 x 0))
 judged_in limit w x (Some order) = need 8 x (block_judged limit w order x (number_at order 4 x 0))
 
+-- what the bytes held tell of the next block
 abbrev pub judged : ℕ → Walk → List ℕ → Judged
 judged limit w x = judged_in limit w x w.order
 
@@ -149,6 +151,7 @@ keep_in (Interface snapshot) = 16
 keep_in (Packet at captured original) = at + captured
 keep_in Passed = 8
 
+-- how many bytes at the block's front are read
 abbrev pub keep_of : Plan → ℕ
 keep_of plan = keep_in plan.body
 
@@ -181,6 +184,7 @@ behind_by w order total Passed = record {
   offset = w.offset + total;
 }
 
+-- what stands behind the block
 abbrev pub walk_past : Walk → Plan → Walk
 walk_past w plan = behind_by w plan.order plan.total plan.body
 
@@ -193,5 +197,6 @@ refusal_by w x (Known plan) =
     else if number_at plan.order 4 x (plan.total - 4) == plan.total then None
     else Some (BadBlock (told_offset w) plan.total)
 
+-- what the next block is refused for, with all of its bytes
 abbrev pub block_refusal : ℕ → Walk → List ℕ → Option NgBad
 block_refusal limit w x = refusal_by w x (judged limit w x)

@@ -18,6 +18,7 @@ pub record Block : Type 0 where
   pub bytes : List ℕ
   pub plan : Plan
 
+-- the block's bytes
 abbrev pub text : Block → List ℕ
 text b = b.bytes
 
@@ -43,6 +44,7 @@ frame_in x Section = []
 frame_in x (Interface snapshot) = []
 frame_in x Passed = []
 
+-- the frame that a block has, where it is one of a packet
 abbrev pub framed : Block → List Framed
 framed b = frame_in b.bytes b.plan.body
 
@@ -83,6 +85,7 @@ pub data NgOutcome : Type 0 where
   NgWhole : List Framed → ℕ → NgOutcome
   NgRefused : NgBad → NgOutcome
 
+-- what the bytes are as a whole: packets with so many cut bytes behind them, or the one refusal
 abbrev pub NgCaptureOf : ℕ → List ℕ → NgOutcome → Type 0
 NgCaptureOf limit bytes (NgWhole frames cut) = (rest : List ℕ) × IsNgCapture limit bytes frames rest × (cut ≡ length rest)
 NgCaptureOf limit bytes (NgRefused bad) = Refuses limit bytes bad ⊎ (Cuts limit bytes [] bytes × (bad ≡ ShortSection (length bytes)))

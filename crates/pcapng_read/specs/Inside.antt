@@ -28,6 +28,7 @@ abbrev pub held_in : List ℕ → Option Data → List ℕ
 held_in held None = held
 held_in held (Some d) = []
 
+-- where the reader stands
 abbrev pub view_of : Inside → NgReaderView
 view_of a = record {
   limit = a.limit;
@@ -52,6 +53,7 @@ pub record IsLending (a : Inside) (d : Data) : Type 0 where
   pub none : a.seen ≡ 0
   pub ready : judged a.limit a.walk [] ≡ Waits 8
 
+-- there is room for the longest packet, and the counts are below their limits
 pub record IsSound (a : Inside) : Type 0 where
   pub room : 32 + most_captured ≤ vec_capacity a.held
   pub counted : HasRoomForBlock a.walk

@@ -45,6 +45,7 @@ pub record HasRoomForBlock (w : Walk) : Type 0 where
   pub others : w.others < 4294967296
   pub offset : w.offset ≤ (w.packets + w.others) * 4294967295
 
+-- the counts and the offset have room for what the block adds
 pub record HasRoom (w : Walk) (plan : Plan) : Type 0 where
   pub count : count_in w plan.body + 1 < 4294967296
   pub total : plan.total < 4294967296

@@ -92,11 +92,13 @@ abbrev pub end_in : ℕ → Option Order → Result ℕ NgBad
 end_in seen None = Err (ShortSection seen)
 end_in seen (Some order) = Ok seen
 
+-- the same, by what is known of the block that has begun
 abbrev pub end_by : NgReaderView → Judged → Result ℕ NgBad
 end_by view (Waits n) = end_in view.seen view.walk.order
 end_by view (Refused bad) = Err bad
 end_by view (Known plan) = end_in view.seen view.walk.order
 
+-- what the input's end comes to
 abbrev pub end_of : NgReaderView → Result ℕ NgBad
 end_of view = end_by view view.judged
 

@@ -20,6 +20,7 @@ pub record OutView : Type 0 where
   pub id : TableId
   pub taken : List Push
 
+-- one pass that pushes and pops: the lane, what was sent, what was taken, and how often the lane was full
 pub record BothView : Type 0 where
   pub id : TableId
   pub sent : List Push

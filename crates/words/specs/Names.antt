@@ -6,9 +6,11 @@ use Rattle.words.specs.Grammar.{Name, Text}
 use Rattle.words.specs.declared.names.Verb.{Verb}
 use Rattle.words.specs.declared.names.Verb.TheVariants.{Run, Load, Prefix, Epochs}
 
+-- a name with a value
 abbrev pub an_option : Text → Name
 an_option text = record { text = text; has_value = true }
 
+-- a name without one
 abbrev pub a_flag : Text → Name
 a_flag text = record { text = text; has_value = false }
 
@@ -46,5 +48,6 @@ own_flags Load = map a_flag (codes "journal" ∷ [])
 own_flags Prefix = []
 own_flags Epochs = []
 
+-- all names of a command
 abbrev pub names_of : Verb → List Name
 names_of verb = (shared_options ++ own_options verb) ++ own_flags verb

@@ -25,10 +25,12 @@ abbrev pub most_rows : Sketch → ℕ
 most_rows LogLog = 1
 most_rows _ = 8
 
+-- the rows where none are given
 abbrev pub usual_rows : Sketch → ℕ
 usual_rows LogLog = 1
 usual_rows _ = 4
 
+-- the threshold where none is given
 abbrev pub usual_threshold : Sketch → ℕ
 usual_threshold LogLog = 1
 usual_threshold _ = 16
