@@ -16,4 +16,5 @@ is_in_bucket bucket candidate = bucket_of candidate.fingerprint == bucket
 pub record AreBuckets (candidates : List Candidate) (lists : List (Vec Candidate)) : Type 0 where
   pub count : length lists ≡ 32
   pub within : All (λ candidate. bucket_of candidate.fingerprint < 32) candidates
-  pub each : (bucket : ℕ) (none : Vec Candidate) → bucket < 32 → (slice_index_or lists bucket none).items ≡ filter (is_in_bucket bucket) candidates
+  pub each : (bucket : ℕ) (none : Vec Candidate) → bucket < 32
+      → (slice_index_or lists bucket none).items ≡ filter (is_in_bucket bucket) candidates

@@ -80,7 +80,8 @@ module _ {K Held : Type 0} where
   pub record IsCoreAt (stands : Held → ℤ → ℤ → Type 0) (r : Rules) (v : Core K Held) (s : State) : Type 0 where
     pub fit : IsFitForRun r v
     pub lawful : IsLawfulState (terms_within r v.limits) s
-    pub each : (w : ℕ) (d : LagWorker K Held) → slice_get v.workers w ≡ Some d → IsWorkerAt stands (terms_within r v.limits) w d (worker_in s w)
+    pub each : (w : ℕ) (d : LagWorker K Held) → slice_get v.workers w ≡ Some d
+        → IsWorkerAt stands (terms_within r v.limits) w d (worker_in s w)
     pub fold : IsStateAfter r v.fold s.folded
     pub shown : IsShownOf r (layout_of v.fold) (shown_messages s) v.shown
     pub readers : length s.seen ≡ length v.seen

@@ -124,7 +124,8 @@ fn run_workers<K: Kind, R: Threads + Sync>(
     options: &Options,
 )
     requires lawful { IsLawful options.now }
-    requires sound { (w : ℕ) (p : _) → w < length parts.old → IsReadyForBlock options.now (length packets.now) (slice_index_or parts.old w p) }
+    requires sound { (w : ℕ) (p : _) → w < length parts.old → IsReadyForBlock options.now (length packets.now)
+        (slice_index_or parts.old w p) }
     ensures len { length parts.new ≡ length parts.old }
     ensures ran { (w : ℕ) (p : _) → w < length parts.old
         → RanBlock K.rules K.stands options.now packets.now (slice_index_or parts.old w p) (slice_index_or parts.new w p) }
@@ -147,7 +148,8 @@ fn run_workers<K: Kind, R: Threads + Sync>(
 // The same, one worker after another.
 fn run_workers_alone<K: Kind>(parts: &mut [Part<K>], packets: &[Packet], options: &Options)
     requires lawful { IsLawful options.now }
-    requires sound { (w : ℕ) (p : _) → w < length parts.old → IsReadyForBlock options.now (length packets.now) (slice_index_or parts.old w p) }
+    requires sound { (w : ℕ) (p : _) → w < length parts.old → IsReadyForBlock options.now (length packets.now)
+        (slice_index_or parts.old w p) }
     ensures len { length parts.new ≡ length parts.old }
     ensures ran { (w : ℕ) (p : _) → w < length parts.old
         → RanBlock K.rules K.stands options.now packets.now (slice_index_or parts.old w p) (slice_index_or parts.new w p) }

@@ -29,7 +29,8 @@ pub fn parts_of<K: Kind>(
     requires lawful { IsLawful options.now }
     requires sketch { options.now.sketch ≡ K.sketch }
     requires few { length packets.now ≤ 16777216 }
-    ensures parts { IfOk result (λ parts. AreWorkersAfter K.stands (terms_of packets.now options.now) options.now packets.now 0 parts.items) }
+    ensures parts { IfOk result (λ parts. AreWorkersAfter K.stands (terms_of packets.now options.now) options.now
+        packets.now 0 parts.items) }
     ensures amounts { OnOk result (All (λ p. p.amount < 2 ^ 32) packets.now) }
 {
     amounts_fit(packets);

@@ -40,7 +40,8 @@ HasReason input Reads IsText source source' out out' UsageFault = ⊥
 HasReason input Reads IsText source source' out out' SourceFault = Rose source.faults source'.faults × Reads (IsUnrefused input)
 HasReason input Reads IsText source source' out out' SinkFault =
     Rose out.faults out'.faults × Reads (CutShort IsText out.bytes out'.bytes) × Reads (IsAccepted input)
-HasReason input Reads IsText source source' out out' (BadFault refusal) = Reads (λ given rest. HoldsFault input given rest (BadFault refusal))
+HasReason input Reads IsText source source' out out' (BadFault refusal) = Reads (λ given rest. HoldsFault input given
+    rest (BadFault refusal))
 HasReason input Reads IsText source source' out out' (LineFault line) =
     HasJournal input × Reads (λ given rest. HoldsFault input given rest (LineFault line))
 HasReason input Reads IsText source source' out out' MemoryFault = Unit {0}

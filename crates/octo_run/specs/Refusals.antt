@@ -15,7 +15,8 @@ pub data Input : Type 0 where
 
 -- the bytes given begin with a journal's text, and those behind it hold this refusal of a capture
 abbrev pub HoldsBehind : List ℕ → List ℕ → Refusal → Type 0
-HoldsBehind given rest refusal = (content : Journal) × (behind : List ℕ) × IsReadText given content behind × HoldsRefusal behind rest refusal
+HoldsBehind given rest refusal = (content : Journal) × (behind : List ℕ) × IsReadText given content behind
+    × HoldsRefusal behind rest refusal
 
 -- whether a fault tells that such bytes are refused: a refusal of the capture, or a line that isn't one of a journal
 abbrev pub IsRefusal : Input → Fault → Type 0

@@ -50,7 +50,8 @@ fn take_journal<S: Source>(alloc: Global, source: &mut Ahead<'_, S>) -> Result<J
     ensures same_reference { source.new.source.ghost_name ≡ source.old.source.ghost_name }
     ensures readable { IfOk result IsReadable }
     ensures asked { IfOk result (λ journal. (content_of journal).options ≡ journal.options) }
-    ensures journal { IfOk result (λ journal. TakesJournal (S.left source.old.source.now) (left_of S.left source.new) (content_of journal)) }
+    ensures journal { IfOk result (λ journal. TakesJournal (S.left source.old.source.now) (left_of S.left source.new)
+        (content_of journal)) }
     ensures reason { IfErr result (λ fault. (out out' : Side)
         → HasReason OfJournal (Given (S.left source.old.source.now) (S.left source.new.source.now)) IsAuditText
         (side (S.left source.old.source.now) (S.faults source.old.source.now))
@@ -98,7 +99,8 @@ fn judge<S: Source>(alloc: Global, source: &mut Ahead<'_, S>) -> Result<Verdict,
 
 // The same of all that the source gives.
 fn judge_all<S: Source>(alloc: Global, source: &mut S) -> Result<Verdict, Fault>
-    ensures judged { IfOk result (λ verdict. Given (S.left source.old) (S.left source.new) (λ given rest. (rest ≡ []) × IsJudged given verdict)) }
+    ensures judged { IfOk result (λ verdict. Given (S.left source.old) (S.left source.new) (λ given rest. (rest ≡ [])
+        × IsJudged given verdict)) }
     ensures accepted { OnOk result (Given (S.left source.old) (S.left source.new) (IsAccepted OfJournal)) }
     ensures reason { IfErr result (λ fault. (out out' : Side)
         → HasReason OfJournal (Given (S.left source.old) (S.left source.new)) IsAuditText

@@ -41,6 +41,8 @@ pub fn one_epochs_text()
 /// Bytes are one journal and the packets of one capture at most, and so don't have the line of a
 /// lawful journal and a difference as well. A law: it does nothing when it runs.
 pub fn one_audit()
-    ensures read { (bytes : List ℕ) (c d : Journal) (ps qs : List Packet) → AreAudited bytes c ps → AreAudited bytes d qs → (c ≡ d) × (ps ≡ qs) }
-    ensures verdict { (bytes text : List ℕ) (line : ℕ) (kept lawful : List ℕ) → IsAuditText bytes text → DiffersAt bytes line kept lawful → ⊥ }
+    ensures read { (bytes : List ℕ) (c d : Journal) (ps qs : List Packet) → AreAudited bytes c ps
+        → AreAudited bytes d qs → (c ≡ d) × (ps ≡ qs) }
+    ensures verdict { (bytes text : List ℕ) (line : ℕ) (kept lawful : List ℕ) → IsAuditText bytes text
+        → DiffersAt bytes line kept lawful → ⊥ }
 {}

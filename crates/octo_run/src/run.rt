@@ -165,7 +165,8 @@ pub fn octo<R: Threads + Wait + Sync, S: Source, T: Sink, E: Sink, G: Gate>(
     ensures differs { result ≡ Status.Differs → (command : Command) → Gives (map string_bytes words.now) command
         → (command ≡ Command.Audit) × (line : ℕ) × (kept : List ℕ) × (lawful : List ℕ)
         × Given (S.left source.old) (S.left source.new) (λ given rest. (rest ≡ []) × DiffersAt given line kept lawful)
-        × TellsLine (E.holds err.old) (E.holds err.new) (E.faults err.old) (E.faults err.new) (fault_line (Fault.Differs line kept lawful)) }
+        × TellsLine (E.holds err.old) (E.holds err.new) (E.faults err.old) (E.faults err.new) (fault_line
+        (Fault.Differs line kept lawful)) }
     ensures accepted { (result ≡ Status.Done) ⊎ ((result ≡ Status.WriteFault) ⊎ (result ≡ Status.Differs))
         → (command : Command) → Gives (map string_bytes words.now) command
         → GivenFor command (S.left source.old) (S.left source.new) (IsAccepted (input_of command)) }

@@ -59,7 +59,8 @@ pub record StepsOn (old new : NgReaderView) (piece : List ℕ) (taken : NgTaken)
   pub most : taken_by new ≤ most_bytes new.limit
   pub going : IsGoing new.judged
 
--- the reader goes on behind the bytes that it took; where a packet's block became whole it ended with the last of them, and nothing of the next one is held
+-- the reader goes on behind the bytes that it took; where a packet's block became whole it ended with the last of them, and
+-- nothing of the next one is held
 pub record GoesOn (old new : NgReaderView) (piece : List ℕ) (taken : NgTaken) : Type 0 where
   pub bound : taken.used ≤ length piece
   pub all : taken.packet ≡ false → taken.used ≡ length piece

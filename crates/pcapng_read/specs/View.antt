@@ -10,7 +10,8 @@ use Rattle.pcapng_read.specs.declared.block.Plan.{Plan}
 use Rattle.pcapng_read.specs.declared.block.Judged.{Judged}
 use Rattle.pcapng_read.specs.declared.block.Judged.TheVariants.{Waits, Refused, Known}
 
--- what stands in front of the block that is read, what is known of it, how many of its bytes have come, those of them that are held, and the packet that can be lent
+-- what stands in front of the block that is read, what is known of it, how many of its bytes have come, those of them that
+-- are held, and the packet that can be lent
 pub record NgReaderView : Type 0 where
   pub limit : ℕ
   pub walk : Walk

@@ -1,4 +1,5 @@
--- What was sent is what was taken and then what the lane holds. One pass at most may push, and it has the list of what was sent. The same for pops.
+-- What was sent is what was taken and then what the lane holds. One pass at most may push, and it has the list of what was
+-- sent. The same for pops.
 use Rattle.std.specs.Prelude.{◌≡◌, ℕ, Bool, true, List, ◌++◌}
 use mathlib.Core.Option.{some}
 use lib.ListN.{get_elem?}

@@ -51,7 +51,8 @@ pub record Reports (rules : Rules) (table : TableView) (packets : List Packet) (
   pub total : report.total ≡ total_amount packets
   pub used : report.used.items ≡ map (used_in table) (rows_of table.shape)
   pub watch : report.watch.items ≡ map (flow_by (rules.estimate table.shape table.cells)) options.watch.items
-  pub finds : FindsFlows options.sketch (rules.estimate table.shape table.cells) options packets report.distinct report.heavy report.flows.items
+  pub finds : FindsFlows options.sketch (rules.estimate table.shape table.cells) options packets report.distinct
+      report.heavy report.flows.items
 
 -- the same, of the one table that takes every packet
 unfoldable pub IsReport : List Packet → ℕ → Tallies → ℕ → Options → Report → Type 0

@@ -49,7 +49,8 @@ fn first_other(kept: &[u8], lawful: &[u8], first: usize, separator: u8) -> Optio
     ensures other { MatchOption result (pieces_from separator kept.now first ≡ pieces_from separator lawful.now first)
         (λ p. IsFirstOther (pieces_from separator kept.now first) (pieces_from separator lawful.now first) p.number) }
     ensures kept { IfSome result (λ p. drop p.number (pieces_from separator kept.now first) ≡ pieces_from separator kept.now p.start) }
-    ensures lawful { IfSome result (λ p. drop p.number (pieces_from separator lawful.now first) ≡ pieces_from separator lawful.now p.start) }
+    ensures lawful { IfSome result (λ p. drop p.number (pieces_from separator lawful.now first) ≡ pieces_from
+        separator lawful.now p.start) }
     ensures within { IfSome result (λ p. (first + p.number ≤ p.start) × (p.start ≤ 4000000001)) }
 {
     let shorter = kept.len().min(lawful.len());

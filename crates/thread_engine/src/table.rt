@@ -14,7 +14,8 @@ use push_rule::Private;
 /// Joins into each cell what each worker counted of it and did not tell.
 pub fn join_residues<K: Kind>(table: &mut Table<K>, sketches: &[Private<K>])
     requires size { length table.old.cells ≡ size_of table.old.shape }
-    requires each { (w : ℕ) (s : _) → w < length sketches.now → IsWorkerFor K.stands K.rules table.old.shape (slice_index_or sketches.now w s) }
+    requires each { (w : ℕ) (s : _) → w < length sketches.now
+        → IsWorkerFor K.stands K.rules table.old.shape (slice_index_or sketches.now w s) }
     ensures shape { table.new.shape ≡ table.old.shape }
     ensures size { length table.new.cells ≡ size_of table.new.shape }
     ensures joined { (by : ℕ → Counted)

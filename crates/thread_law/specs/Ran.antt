@@ -39,7 +39,8 @@ IsAnswerNumber o answers q k a = slice_get answers (q * o.asks + k) ≡ Some a
 pub record AreAnswers (o : Options) (folded : List Push) (answers : List Answer) : Type 0 where
   pub len : length answers ≡ o.readers * o.asks
   pub each : (q k : ℕ) (a : Answer) → q < o.readers → k < o.asks → IsAnswerNumber o answers q k a → IsAnswer o folded q k a
-  pub rising : (q j k : ℕ) (a b : Answer) → q < o.readers → j ≤ k → k < o.asks → IsAnswerNumber o answers q j a → IsAnswerNumber o answers q k b
+  pub rising : (q j k : ℕ) (a b : Answer) → q < o.readers → j ≤ k → k < o.asks → IsAnswerNumber o answers q j a
+      → IsAnswerNumber o answers q k b
       → a.folded ≤ b.folded
 
 -- the messages of each worker and its refused updates are lawful up to all its updates

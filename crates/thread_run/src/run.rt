@@ -55,7 +55,8 @@ pub fn run_beside<K: Kind, R: Threads + Wait + Sync, G: Gate>(
             requires { IsSync R.row × IsShape options.now.shape × (length packets.now ≤ 16777216) × (length lanes.now ≤ 65536)
                 × (length workers.now.items ≡ length lanes.now)
                 × AreReady K.stands K.rules options.now packets.now lanes.now workers.now.items }
-            ensures { HaveWorked K.stands K.rules options.entry.now packets.entry.now lanes.entry.now workers.entry.now.items workers.exit.now.items }
+            ensures { HaveWorked K.stands K.rules options.entry.now packets.entry.now lanes.entry.now
+                workers.entry.now.items workers.exit.now.items }
         { run_marked(rt, packets, options, lanes, gate, ended, workers) },
         rest,
         workers,

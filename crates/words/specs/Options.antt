@@ -97,7 +97,8 @@ GivesPrefix rest o watch = (parts : List Part) × IsCommandLine (names_of Prefix
 
 -- the words behind `epochs` give the packets of an epoch, the least change, and the options, with Count Sketch and without keys
 abbrev pub GivesEpochs : List Text → ℕ → ℕ → Options → Type 0
-GivesEpochs rest packets change o = (parts : List Part) × IsCommandLine (names_of EpochsVerb) parts rest × GivesOptions CountSketch None parts o
+GivesEpochs rest packets change o = (parts : List Part) × IsCommandLine (names_of EpochsVerb) parts rest
+    × GivesOptions CountSketch None parts o
     × NeedsNumber 256 16777216 (value_in (codes "packets") parts) packets
     × IsNumberOf 1 1099511627776 1024 (value_in (codes "change") parts) change
 
