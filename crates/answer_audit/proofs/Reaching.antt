@@ -20,7 +20,7 @@ use Rattle.push_history.proofs.MoreMessages.{cells_none, front_at, front_len}
 use Rattle.push_history.proofs.Notes.{map_range_same}
 use Rattle.std.proofs.lemmas.Option.{get_or_from_slice_get, slice_get_within}
 use Rattle.told_table.specs.Tables.{FitsIn, IsTableOf}
-use Rattle.answer_audit.specs.Reached.{HasReached, IsFor, IsWithinSent}
+use Rattle.answer_audit.specs.Reached.{HasReached, IsMessageFor, IsWithinSent}
 
 none_before : (workers w : ℕ) → let none : ℕ = 0 in get_or (replicate workers none) w none ≡ none
 none_before workers w = elim (cases_lt w workers) [
@@ -52,7 +52,7 @@ take_parts xs a k =
     ap₂ (λ s t. s ++ t) (sym (take-take a (a + k) xs (omega arith))) (sym (drop-take a k xs)) ∙ take-append-drop a (take (a + k) xs)
 
 module _ (r : Rules) (messages : List (List Push)) (front : List ℕ) (old new : TableView) (w n : ℕ) (some : List Push) (inside : w < length messages) (len : length front ≡ length messages)
-    (rises : get_or front w 0 ≤ n) (fit : All (IsFor r old.shape w) some) (is : some ≡ take (n - get_or front w 0) (drop (get_or front w 0) (sent_by messages w)))
+    (rises : get_or front w 0 ≤ n) (fit : All (IsMessageFor r old.shape w) some) (is : some ≡ take (n - get_or front w 0) (drop (get_or front w 0) (sent_by messages w)))
     (tells : (before : List Push) → IsTableOf r old before → IsTableOf r new (before ++ some)) (h : HasReached r messages front old) where
   own : messages_of w some ≡ some
   own = filter_kept (λ m. m.worker == w) some (λ k d lt. eq-eqb (get_or some k d).worker w (fit k d lt).0)
@@ -86,11 +86,11 @@ module _ (r : Rules) (messages : List (List Push)) (front : List ℕ) (old new :
     told = tells h.folded h.told;
   }
 
-pub fits_of : (r : Rules) (shape : Shape) (w : ℕ) (some : List Push) → All (IsFor r shape w) some → All (FitsIn r shape) some
+pub fits_of : (r : Rules) (shape : Shape) (w : ℕ) (some : List Push) → All (IsMessageFor r shape w) some → All (FitsIn r shape) some
 fits_of r shape w some fit = λ k d lt. ((fit k d lt).1, (fit k d lt).2)
 
-pub part_fits : (r : Rules) (shape : Shape) (w a k : ℕ) (sent : List Push) → All (IsFor r shape w) sent → All (IsFor r shape w) (take k (drop a sent))
-part_fits r shape w a k sent fit = All-take (IsFor r shape w) k (drop a sent) (All-drop (IsFor r shape w) a sent fit)
+pub part_fits : (r : Rules) (shape : Shape) (w a k : ℕ) (sent : List Push) → All (IsMessageFor r shape w) sent → All (IsMessageFor r shape w) (take k (drop a sent))
+part_fits r shape w a k sent fit = All-take (IsMessageFor r shape w) k (drop a sent) (All-drop (IsMessageFor r shape w) a sent fit)
 
 length_take_within : {A : Type 0} (xs : List A) (n : ℕ) → n ≤ length xs → length (take n xs) ≡ n
 length_take_within xs n le = omega (arith, le, length-take n xs)

@@ -3,7 +3,7 @@ ghost use Rattle.hash_rows.specs.Shapes.{IsShape};
 ghost use Rattle.hash_rows.specs.declared.shape.Push.{Push};
 ghost use Rattle.told_table.specs.Tables.{lists_of};
 ghost use Rattle.push_history.specs.LawfulJournal.{sent_by};
-ghost use Rattle.answer_audit.specs.Reached.{AreSent, HasReached, IsFor, IsWithinSent};
+ghost use Rattle.answer_audit.specs.Reached.{AreSent, HasReached, IsMessageFor, IsWithinSent};
 
 use flow_base::NoMemory;
 use hash_rows::{Counts, Kind, Push, Shape, Table};
@@ -55,7 +55,7 @@ impl<K: Kind> Reached<K> {
         requires worker { worker < length self.old.front.items }
         requires within { number ≤ length sent.now }
         requires rising { slice_index_or self.old.front.items worker 0 ≤ number }
-        requires fit { All (IsFor K.rules self.old.table.shape worker) sent.now }
+        requires fit { All (IsMessageFor K.rules self.old.table.shape worker) sent.now }
         ensures shape { self.new.table.shape ≡ self.old.table.shape }
         ensures front { self.new.front.items ≡ slice_set self.old.front.items worker number }
         ensures reached { (messages : List (List Push)) → length messages ≡ length self.old.front.items → sent_by messages worker ≡ sent.now
