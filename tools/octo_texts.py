@@ -1,4 +1,4 @@
-"""Reads octo's texts: reports, journals, and the texts of `prefix` and `epochs`.
+"""Reads octo's texts: reports, journals, and the texts of `prefix`, `epochs` and `audit`.
 
 A text is read line by line, each by its place, as docs/FORMATS.md writes it. A line that hasn't the
 form of its place raises BadText with its number, counted from 1.
@@ -244,11 +244,18 @@ def read_epochs(lines):
     return text
 
 
+def read_audit(lines):
+    # The one text that is a line alone: it stands only where a journal is lawful.
+    lines.take("octosketch audit lawful")
+    return {"kind": "audit", "lawful": True}
+
+
 READERS = {
     "octosketch report 1": read_report,
     "octosketch journal 1": read_journal,
     "octosketch prefix 1": read_prefix,
     "octosketch epochs 1": read_epochs,
+    "octosketch audit lawful": read_audit,
 }
 
 

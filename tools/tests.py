@@ -18,7 +18,12 @@ KINDS = {
     "distinct.txt": ["report", "journal"],
     "prefix.txt": ["prefix"],
     "epochs.txt": ["epochs"],
+    "audit.txt": ["audit"],
 }
+# What the last line of a text may be.
+LAST = ("\nend\n", "octosketch audit lawful\n")
+# A verdict has no numbers to draw.
+DRAWN = [path for path in TEXTS if path.name != "audit.txt"]
 
 
 def wrong_line(text):
@@ -45,7 +50,7 @@ class Reading(unittest.TestCase):
     def test_a_text_that_is_cut_is_refused(self):
         for path in TEXTS:
             text = path.read_text()
-            ends = [at + 1 for at in range(len(text)) if text[: at + 1].endswith("\nend\n")]
+            ends = [at + 1 for at in range(len(text)) if text[: at + 1].endswith(LAST)]
             for length in range(len(text)):
                 whole = length in ends
                 self.assertEqual(wrong_line(text[:length]) is None, whole, (path.name, length))
@@ -97,13 +102,18 @@ class Commands(unittest.TestCase):
             self.assertEqual(done.returncode, 1)
             self.assertIn("line 2", done.stderr)
 
+    def test_a_verdict_is_not_drawn(self):
+        done = call("octo-chart", "unmade.png", text=(HERE / "texts/audit.txt").read_text())
+        self.assertEqual(done.returncode, 1)
+        self.assertIn("octo-chart: ", done.stderr)
+
     def test_pictures(self):
         try:
             import matplotlib  # noqa: F401
         except ImportError:
             self.skipTest("no matplotlib")
         with tempfile.TemporaryDirectory() as folder:
-            for path in TEXTS:
+            for path in DRAWN:
                 for kind in ("png", "svg"):
                     out = Path(folder) / f"{path.stem}.{kind}"
                     done = call("octo-chart", str(out), text=path.read_text())
