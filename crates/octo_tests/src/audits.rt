@@ -102,14 +102,14 @@ missed 0
 end
 ";
 
-/// The one line of a journal that is lawful.
-const LAWFUL: &[u8] = b"octosketch audit lawful\n";
+/// What is said of a journal that is lawful.
+pub const LAWFUL: &[u8] = b"octosketch audit lawful\n";
 
 /// The first line of a journal.
-const HEAD: &str = "octosketch journal 1\n";
+pub const HEAD: &str = "octosketch journal 1\n";
 
-// Audits the journal and the capture that a line of words names.
-fn audit<R: Threads + Wait + Sync>(
+/// Audits the journal and the capture that a line of words names.
+pub fn audit<R: Threads + Wait + Sync>(
     rt: &R,
     alloc: Global,
     journal: &str,

@@ -1,5 +1,6 @@
 // Sources and outputs that fail.
 
+use crate::audits::{LAWFUL, audit};
 use crate::runs::{SMOOTH, Ways, run};
 use flow_base::Status;
 use std::alloc::Global;
@@ -16,6 +17,15 @@ const WITH_JOURNAL: &str =
 
 /// Words whose text of the epochs of 300 packets has 18 lines.
 const EPOCHS: &str = "epochs --packets 256 --rows 1 --columns 1 --least 100 --change 212";
+
+/// The journal of six packets. With its 272 bytes and the 444 of their capture it comes in 12 pieces of 64.
+const JOURNAL: &str = "octosketch journal 1
+options sketch count-sketch rows 1 columns 1 amount packets share turn workers 1 threshold 1 lane 64 batch 32 round 64 full leave mode rounds readers 0 asks 0 heavy 64 least 5
+worker 0 pushes 6 refused 0
+live 10.0.0.1:1234>10.0.0.2:443/6
+missed 0
+end
+";
 
 // How a run ends whose source gives pieces and fails at a call.
 fn end_of_reads<R: Threads + Wait + Sync>(
@@ -141,5 +151,67 @@ fn a_fault_of_the_error_output_changes_nothing_else(rt: HostRuntime) -> Result<(
     };
     let end = run(&rt, rt.alloc(), WORDS, "LH tcp", unread)?;
     assert_eq!(rt; (end.status, end.out.held().len()), (Status::ReadFault, 0));
+    Ok(())
+}
+
+// Bytes come in pieces of 64 and go one by one, and these reads and writes fail.
+fn failing<'x>(reads: &'x [u32], writes: &'x [u32]) -> Ways<'x> {
+    Ways {
+        piece: 64,
+        failing_reads: reads,
+        failing_writes: writes,
+        at_a_time: 1,
+        ..SMOOTH
+    }
+}
+
+#[test]
+fn a_failing_read_ends_an_audit(rt: HostRuntime) -> Result<(), Fail> {
+    let alloc = rt.alloc();
+    // The last read finds the end of the input.
+    for call in 0..13 {
+        let end = audit(&rt, alloc, JOURNAL, "LH 6*tcp", failing(&[call], &[]))?;
+        assert!(rt; end.status == Status::ReadFault, "{call}");
+        assert!(rt; end.out.held().is_empty());
+        assert!(rt; end.err.held() == b"octo: read fault\n".as_slice());
+    }
+    let end = audit(&rt, alloc, JOURNAL, "LH 6*tcp", failing(&[13], &[]))?;
+    assert!(rt; end.status == Status::Done && end.out.held() == LAWFUL);
+    Ok(())
+}
+
+#[test]
+fn a_failing_write_leaves_a_front_of_the_verdict(rt: HostRuntime) -> Result<(), Fail> {
+    let alloc = rt.alloc();
+    for call in 0..24u32 {
+        let end = audit(&rt, alloc, JOURNAL, "LH 6*tcp", failing(&[], &[call]))?;
+        let held = end.out.held();
+        assert!(rt; end.status == Status::WriteFault, "{call}");
+        assert!(rt;
+            held.len() == call as usize && LAWFUL.starts_with(held),
+            "{call}"
+        );
+        assert!(rt; end.err.held() == b"octo: write fault\n".as_slice());
+    }
+    let end = audit(&rt, alloc, JOURNAL, "LH 6*tcp", failing(&[], &[24]))?;
+    assert!(rt; end.status == Status::Done && end.out.held() == LAWFUL);
+    Ok(())
+}
+
+#[test]
+fn an_audit_whose_fault_is_not_told_ends_the_same(rt: HostRuntime) -> Result<(), Fail> {
+    for (reads, writes, status, count) in [
+        ([3].as_slice(), [].as_slice(), Status::ReadFault, 0),
+        (&[], &[5], Status::WriteFault, 5),
+    ] {
+        let untold = Ways {
+            failing_lines: &[0],
+            ..failing(reads, writes)
+        };
+        let end = audit(&rt, rt.alloc(), JOURNAL, "LH 6*tcp", untold)?;
+        assert_eq!(rt; (end.status, end.out.held().len()), (status, count));
+        assert!(rt; LAWFUL.starts_with(end.out.held()));
+        assert!(rt; end.err.held().is_empty());
+    }
     Ok(())
 }

@@ -20,6 +20,8 @@ mod in_threads;
 #[cfg(test)]
 mod pcapng;
 #[cfg(test)]
+mod raised;
+#[cfg(test)]
 mod refusals;
 #[cfg(test)]
 mod runs;

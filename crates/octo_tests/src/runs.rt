@@ -102,16 +102,16 @@ fn words_of(alloc: Global, line: &str) -> Result<Vec<String>, AllocError> {
 /// A worked run: its words, its capture, its exit status with the line on the error output, and
 /// the text on the output.
 #[derive(Clone, Copy)]
-struct Case<'a> {
-    name: &'a str,
-    words: &'a str,
-    bytes: &'a str,
-    status: &'a str,
-    text: &'a str,
+pub struct Case<'a> {
+    pub name: &'a str,
+    pub words: &'a str,
+    pub bytes: &'a str,
+    pub status: &'a str,
+    pub text: &'a str,
 }
 
-// A case is its name, its words, its capture and its status, a line each, and then the text.
-fn case_of(text: &str) -> Option<Case<'_>> {
+/// A case is its name, its words, its capture and its status, a line each, and then the text.
+pub fn case_of(text: &str) -> Option<Case<'_>> {
     let (name, rest) = text.split_once('\n')?;
     let (words, rest) = rest.split_once('\n')?;
     let (bytes, rest) = rest.split_once('\n')?;

@@ -3,7 +3,7 @@
 use crate::runs::run_cases;
 use std::test::Fail;
 
-const JOURNALS: &str = "== a full lane leaves updates refused
+pub const JOURNALS: &str = "== a full lane leaves updates refused
 run --rows 1 --columns 1 --workers 1 --threshold 1 --lane 1 --round 4 --readers 1 --asks 3 --least 5 --watch 10.0.0.1:1234>10.0.0.2:443/6 --journal
 LH 6*tcp
 0

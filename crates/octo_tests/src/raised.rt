@@ -1,0 +1,159 @@
+// Journals of runs in rounds of which one number is raised by one: none of them is lawful.
+
+use crate::audits::{HEAD, LAWFUL, audit};
+use crate::runs::{SMOOTH, case_of, end_of};
+use crate::worked_journals::JOURNALS;
+use flow_base::Status;
+use std::alloc::Global;
+use std::process::Abort;
+use std::sync::Wait;
+use std::test::Fail;
+use std::thread::Threads;
+
+/// The digits of a number, with what stands before and behind them in a journal.
+#[derive(Clone, Copy)]
+struct Number<'a> {
+    before: &'a str,
+    digits: &'a str,
+    behind: &'a str,
+}
+
+// The number that stands behind so many others.
+fn number_behind(text: &str, others: u32) -> Option<Number<'_>> {
+    let mut from = text;
+    let mut behind = text;
+    for _ in 0..=others {
+        from = behind.trim_start_matches(|c: char| !c.is_ascii_digit());
+        behind = from.trim_start_matches(|c: char| c.is_ascii_digit());
+    }
+    if from.is_empty() {
+        return None;
+    }
+    Some(Number {
+        before: text.strip_suffix(from)?,
+        digits: from.strip_suffix(behind)?,
+        behind,
+    })
+}
+
+fn behind_last(text: &str, cut: char) -> &str {
+    match text.rsplit_once(cut) {
+        Some((_, behind)) => behind,
+        None => text,
+    }
+}
+
+fn before_first(text: &str, cut: char) -> &str {
+    match text.split_once(cut) {
+        Some((before, _)) => before,
+        None => text,
+    }
+}
+
+fn count_of(text: &str, byte: u8) -> usize {
+    text.as_bytes()
+        .iter()
+        .filter(|other| **other == byte)
+        .count()
+}
+
+// The first line behind that of the number that tells no refused updates, where `line` is its own.
+fn line_behind(number: Number<'_>, line: usize) -> usize {
+    for (place, text) in number.behind.lines().enumerate() {
+        if place > 0 && !text.starts_with("refused ") {
+            return line.saturating_add(place);
+        }
+    }
+    line
+}
+
+// The first line that isn't one of a journal where the number is raised, if there is one.
+fn bad_line(number: Number<'_>, line: usize) -> Option<usize> {
+    let start = behind_last(number.before, '\n');
+    let begins_run = behind_last(start, ' ').is_empty();
+    let next = line_behind(number, line);
+    match (before_first(start, ' '), count_of(start, b' ')) {
+        // Another version; another worker, reader or ask than the place of the line says.
+        ("octosketch", _) | ("worker" | "refused" | "answer", 1) | ("answer", 2) => Some(line),
+        // A refused update more than the runs tell.
+        ("worker", 5) => Some(next),
+        // A run of one update ends before it begins; of a longer one an update is missing.
+        ("refused", _) if begins_run => {
+            let single = before_first(number.behind, '\n').strip_prefix('-') == Some(number.digits);
+            Some(if single { line } else { next })
+        }
+        // The last run has an update too many.
+        ("refused", _) => Some(next.saturating_sub(1)),
+        _ => None,
+    }
+}
+
+// How the audit ends where the number is raised to this one.
+fn ending(alloc: Global, number: Number<'_>, raised: u64) -> Result<String, Fail> {
+    let line = count_of(number.before, b'\n').saturating_add(1);
+    if let Some(bad) = bad_line(number, line) {
+        return Ok(format!(in alloc; "4 octo: bad capture 12 line {bad}")?);
+    }
+    let front = behind_last(behind_last(number.before, '\n'), ' ');
+    let back = before_first(before_first(number.behind, '\n'), ' ');
+    let digits = number.digits;
+    Ok(format!(in alloc;
+        "7 octo: differs line {line} kept {front}{raised}{back} lawful {front}{digits}{back}"
+    )?)
+}
+
+// Raises each number that stands in no line of options or watched keys, and says how many there are.
+fn raise_each<R: Threads + Wait + Sync + Abort>(
+    rt: &R,
+    alloc: Global,
+    journal: &str,
+    bytes: &str,
+) -> Result<u32, Fail> {
+    let mut count = 0u32;
+    for others in 0..1000 {
+        let Some(number) = number_behind(journal, others) else {
+            break;
+        };
+        let Number {
+            before,
+            digits,
+            behind,
+        } = number;
+        let start = behind_last(before, '\n');
+        if start.starts_with("options ") || start.starts_with("watched ") {
+            continue;
+        }
+        let raised = digits.parse::<u64>()?.saturating_add(1);
+        let changed = format!(in alloc; "{before}{raised}{behind}")?;
+        let end = audit(rt, alloc, changed.as_str(), bytes, SMOOTH)?;
+        let told = end_of(alloc, &end)?;
+        let due = ending(alloc, number, raised)?;
+        assert!(rt; told.as_str() == due.as_str(), "{told} instead of {due}");
+        assert!(rt; end.out.held().is_empty());
+        count = count.saturating_add(1);
+    }
+    Ok(count)
+}
+
+#[test]
+fn each_number_is_told_where_it_is_raised(rt: HostRuntime) -> Result<(), Fail> {
+    let alloc = rt.alloc();
+    let mut count = 0u32;
+    for text in JOURNALS.split("== ") {
+        if let Some(case) = case_of(text)
+            && let Some((_, journal)) = case.text.split_once(HEAD)
+        {
+            let journal = format!(in alloc; "{HEAD}{journal}")?;
+            let end = audit(&rt, alloc, journal.as_str(), case.bytes, SMOOTH)?;
+            assert!(rt; end.status == Status::Done, "{}", case.name);
+            assert!(rt; end.out.held() == LAWFUL, "{}", case.name);
+            // An audit takes 16 megabytes a worker, so those of more workers would take long.
+            if case.words.contains("--workers 1 ") {
+                let raised = raise_each(&rt, alloc, journal.as_str(), case.bytes)?;
+                count = count.saturating_add(raised);
+            }
+        }
+    }
+    assert_eq!(rt; count, 125);
+    Ok(())
+}
