@@ -135,25 +135,73 @@ fn raise_each<R: Threads + Wait + Sync + Abort>(
     Ok(count)
 }
 
+// The journal of the worked run.
+fn journal_of(alloc: Global, text: &str) -> Result<Option<String>, Fail> {
+    match text.split_once(HEAD) {
+        Some((_, behind)) => Ok(Some(format!(in alloc; "{HEAD}{behind}")?)),
+        None => Ok(None),
+    }
+}
+
+// The same for the journal of the worked run with this name.
+fn raise_each_of<R: Threads + Wait + Sync + Abort>(
+    rt: &R,
+    alloc: Global,
+    name: &str,
+) -> Result<u32, Fail> {
+    for text in JOURNALS.split("== ") {
+        if let Some(case) = case_of(text)
+            && case.name == name
+            && let Some(journal) = journal_of(alloc, case.text)?
+        {
+            return raise_each(rt, alloc, journal.as_str(), case.bytes);
+        }
+    }
+    Err(Fail::from("no such run"))
+}
+
 #[test]
-fn each_number_is_told_where_it_is_raised(rt: HostRuntime) -> Result<(), Fail> {
+fn the_worked_journals_are_lawful(rt: HostRuntime) -> Result<(), Fail> {
     let alloc = rt.alloc();
     let mut count = 0u32;
     for text in JOURNALS.split("== ") {
         if let Some(case) = case_of(text)
-            && let Some((_, journal)) = case.text.split_once(HEAD)
+            && let Some(journal) = journal_of(alloc, case.text)?
         {
-            let journal = format!(in alloc; "{HEAD}{journal}")?;
             let end = audit(&rt, alloc, journal.as_str(), case.bytes, SMOOTH)?;
             assert!(rt; end.status == Status::Done, "{}", case.name);
             assert!(rt; end.out.held() == LAWFUL, "{}", case.name);
-            // An audit takes 16 megabytes a worker, so those of more workers would take long.
-            if case.words.contains("--workers 1 ") {
-                let raised = raise_each(&rt, alloc, journal.as_str(), case.bytes)?;
-                count = count.saturating_add(raised);
-            }
+            count = count.saturating_add(1);
         }
     }
-    assert_eq!(rt; count, 125);
+    assert_eq!(rt; count, 7);
+    Ok(())
+}
+
+// An audit takes 16 megabytes for each worker, so only journals of one worker are raised, in tests apart.
+
+#[test]
+fn each_raised_number_is_told_where_updates_were_refused(rt: HostRuntime) -> Result<(), Fail> {
+    let name = "a full lane leaves updates refused";
+    assert_eq!(rt; raise_each_of(&rt, rt.alloc(), name)?, 37);
+    Ok(())
+}
+
+#[test]
+fn each_raised_number_is_told_where_pushes_wait(rt: HostRuntime) -> Result<(), Fail> {
+    let name = "a push that waits is never refused";
+    assert_eq!(rt; raise_each_of(&rt, rt.alloc(), name)?, 31);
+    Ok(())
+}
+
+#[test]
+fn each_raised_number_is_told_in_each_sketch(rt: HostRuntime) -> Result<(), Fail> {
+    for (name, count) in [
+        ("a front stands between two rows", 31),
+        ("a Count Sketch finds its live key", 16),
+        ("registers answer how many keys there are", 10),
+    ] {
+        assert_eq!(rt; raise_each_of(&rt, rt.alloc(), name)?, count, "{name}");
+    }
     Ok(())
 }
