@@ -18,6 +18,8 @@ mod faults;
 #[cfg(test)]
 mod gates;
 #[cfg(test)]
+mod hostile;
+#[cfg(test)]
 mod in_threads;
 #[cfg(test)]
 mod pcapng;
