@@ -16,6 +16,8 @@ mod commands;
 #[cfg(test)]
 mod faults;
 #[cfg(test)]
+mod fronts;
+#[cfg(test)]
 mod gates;
 #[cfg(test)]
 mod hostile;
