@@ -14,6 +14,7 @@ fn named(name: &str) -> Option<(&'static [u8], &'static [u8])> {
     match name {
         "LH" => Some((LITTLE_HEADER, &[])),
         "BH" => Some((BIG_HEADER, &[])),
+        "frame" => Some((&[], TCP_FRAME)),
         "tcp" => Some((HEAD_OF_54, TCP_FRAME)),
         "tcp-of-none" => Some((HEAD_OF_NONE, TCP_FRAME)),
         "tcp-of-most" => Some((HEAD_OF_MOST, TCP_FRAME)),
