@@ -102,15 +102,18 @@ fn ending(alloc: Global, number: Number<'_>, raised: u64) -> Result<String, Fail
     )?)
 }
 
-// Raises each number that stands in no line of options or watched keys, and says how many there are.
+// Raises each number from the first place up to before the second that stands in no line of options
+// or watched keys, and says how many there are.
 fn raise_each<R: Threads + Wait + Sync + Abort>(
     rt: &R,
     alloc: Global,
     journal: &str,
     bytes: &str,
+    first: u32,
+    end: u32,
 ) -> Result<u32, Fail> {
     let mut count = 0u32;
-    for others in 0..1000 {
+    for others in first..end {
         let Some(number) = number_behind(journal, others) else {
             break;
         };
@@ -125,11 +128,11 @@ fn raise_each<R: Threads + Wait + Sync + Abort>(
         }
         let raised = digits.parse::<u64>()?.saturating_add(1);
         let changed = format!(in alloc; "{before}{raised}{behind}")?;
-        let end = audit(rt, alloc, changed.as_str(), bytes, SMOOTH)?;
-        let told = end_of(alloc, &end)?;
+        let ended = audit(rt, alloc, changed.as_str(), bytes, SMOOTH)?;
+        let told = end_of(alloc, &ended)?;
         let due = ending(alloc, number, raised)?;
         assert!(rt; told.as_str() == due.as_str(), "{told} instead of {due}");
-        assert!(rt; end.out.held().is_empty());
+        assert!(rt; ended.out.held().is_empty());
         count = count.saturating_add(1);
     }
     Ok(count)
@@ -148,13 +151,15 @@ fn raise_each_of<R: Threads + Wait + Sync + Abort>(
     rt: &R,
     alloc: Global,
     name: &str,
+    first: u32,
+    end: u32,
 ) -> Result<u32, Fail> {
     for text in JOURNALS.split("== ") {
         if let Some(case) = case_of(text)
             && case.name == name
             && let Some(journal) = journal_of(alloc, case.text)?
         {
-            return raise_each(rt, alloc, journal.as_str(), case.bytes);
+            return raise_each(rt, alloc, journal.as_str(), case.bytes, first, end);
         }
     }
     Err(Fail::from("no such run"))
@@ -178,19 +183,20 @@ fn the_worked_journals_are_lawful(rt: HostRuntime) -> Result<(), Fail> {
     Ok(())
 }
 
-// An audit takes 16 megabytes for each worker, so only journals of one worker are raised, in tests apart.
+// An audit takes 16 megabytes and its time for each worker, so the journals stand in tests apart, and
+// that of sixteen workers in three: its first eight workers, the others, and its answer.
 
 #[test]
 fn each_raised_number_is_told_where_updates_were_refused(rt: HostRuntime) -> Result<(), Fail> {
     let name = "a full lane leaves updates refused";
-    assert_eq!(rt; raise_each_of(&rt, rt.alloc(), name)?, 37);
+    assert_eq!(rt; raise_each_of(&rt, rt.alloc(), name, 0, 1000)?, 37);
     Ok(())
 }
 
 #[test]
 fn each_raised_number_is_told_where_pushes_wait(rt: HostRuntime) -> Result<(), Fail> {
     let name = "a push that waits is never refused";
-    assert_eq!(rt; raise_each_of(&rt, rt.alloc(), name)?, 31);
+    assert_eq!(rt; raise_each_of(&rt, rt.alloc(), name, 0, 1000)?, 31);
     Ok(())
 }
 
@@ -201,7 +207,40 @@ fn each_raised_number_is_told_in_each_sketch(rt: HostRuntime) -> Result<(), Fail
         ("a Count Sketch finds its live key", 16),
         ("registers answer how many keys there are", 10),
     ] {
-        assert_eq!(rt; raise_each_of(&rt, rt.alloc(), name)?, count, "{name}");
+        assert_eq!(rt;
+            raise_each_of(&rt, rt.alloc(), name, 0, 1000)?,
+            count,
+            "{name}"
+        );
     }
+    Ok(())
+}
+
+#[test]
+fn each_raised_number_is_told_among_four_workers(rt: HostRuntime) -> Result<(), Fail> {
+    let name = "defaults leave residues of ten";
+    assert_eq!(rt; raise_each_of(&rt, rt.alloc(), name, 0, 1000)?, 46);
+    Ok(())
+}
+
+/// The journal of sixteen workers. Its numbers begin with the version, and behind those of options and
+/// watched key each worker's line has three, and the answer's twenty.
+const SIXTEEN: &str = "idle workers push nothing";
+
+#[test]
+fn each_raised_number_is_told_of_the_first_workers(rt: HostRuntime) -> Result<(), Fail> {
+    assert_eq!(rt; raise_each_of(&rt, rt.alloc(), SIXTEEN, 0, 47)?, 25);
+    Ok(())
+}
+
+#[test]
+fn each_raised_number_is_told_of_the_other_workers(rt: HostRuntime) -> Result<(), Fail> {
+    assert_eq!(rt; raise_each_of(&rt, rt.alloc(), SIXTEEN, 47, 71)?, 24);
+    Ok(())
+}
+
+#[test]
+fn each_raised_number_is_told_of_an_answer(rt: HostRuntime) -> Result<(), Fail> {
+    assert_eq!(rt; raise_each_of(&rt, rt.alloc(), SIXTEEN, 71, 1000)?, 21);
     Ok(())
 }
