@@ -265,10 +265,12 @@ fn hold<K: Kind>(
     ensures bytes { bytes.new.items ≡ slice_set bytes.old.items cell (byte_of (K.small_of held)) }
     ensures side { IsHeldBeside (K.small_of held) side.old.entries (spare side.old) cell held side.new.entries (spare side.new) }
 {
-    let byte = byte_for::<K>(held);
-    bytes.set(cell, byte);
-    if byte == MARK {
-        put(side, place, cell, held);
+    match K::small(held) {
+        Some(byte) => bytes.set(cell, byte),
+        None => {
+            bytes.set(cell, MARK);
+            put(side, place, cell, held);
+        }
     }
 }
 

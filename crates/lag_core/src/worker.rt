@@ -79,7 +79,9 @@ fn count<K: Kind>(worker: &mut LagWorker<K>, next: u32, update: &Update) -> Repl
         → IsWorkerAt K.stands t w worker.old x
         → IsWorkerAt K.stands t w worker.new (count_step t w x).0 × (result ≡ (count_step t w x).1) }
 {
-    let reply = worker.counter.count(update);
+    let reply = worker
+        .counter
+        .count(update.packet, &update.key, update.cell, update.value);
     if is_refusal(reply) {
         worker.refused.set(next);
         return reply;

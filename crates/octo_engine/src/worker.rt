@@ -11,7 +11,7 @@ ghost use Rattle.octo_engine.specs.Parts.{AreEnds, HasRun, IsReadyForBlock, RanB
 ghost use Rattle.hash_rows.specs.Shapes.{IsShape, size_of};
 ghost use Rattle.push_history.specs.Rounds.{is_waits};
 
-use hash_rows::{Kind, Options, Packet, Shape, Update, cell_in_row, hash_in_row, key_hash};
+use hash_rows::{Kind, Options, Packet, Shape, cell_in_row, hash_in_row, key_hash};
 use listed::Listed;
 use push_history::Reply;
 use push_rule::Counter;
@@ -133,13 +133,14 @@ fn count_updates<K: Kind>(
     ensures same { KeepsSettings counter.old counter.new }
     ensures grows { Extends counter.old.queue counter.new.queue }
 {
-    let rows = options.shape.rows;
+    // A copy, of which the loops read nothing again.
+    let shape = options.shape;
     let counted = counter.counted();
-    let mut place = counted / rows;
-    let mut first = counted % rows;
+    let mut place = counted / shape.rows;
+    let mut first = counted % shape.rows;
     let mut left = count;
     while left > 0 {
-        match count_packet(counter, share, packets, options, place, first, left) {
+        match count_packet(counter, share, packets, options, &shape, place, first, left) {
             Some(some) => left -= some,
             None => return,
         }
@@ -155,10 +156,12 @@ fn count_packet<K: Kind>(
     share: &Positions,
     packets: &[Packet],
     options: &Options,
+    shape: &Shape,
     place: u32,
     first: u32,
     count: u32,
 ) -> Option<u32>
+    requires same { shape.now ≡ options.now.shape }
     requires shape { IsShape options.now.shape }
     requires fit { IsFit options.now (length packets.now) share.now counter.old }
     requires room { counter.old.taken + options.now.lane < counter.old.room }
@@ -171,12 +174,11 @@ fn count_packet<K: Kind>(
         → MatchOption result (HasCounted K.stands t w x count true counter.new) (λ some. HasCounted K.stands t w x some false counter.new) }
     ensures moved { MatchOption result (HasMoved counter.old counter.new count true) (λ some. HasMoved counter.old counter.new some false) }
 {
-    // A copy, of which the loop over the rows reads nothing again.
-    let shape = options.shape;
+    let _options = options;
     let last = shape.rows.min(first + count);
     let position = share.at(place);
     let packet = &packets[position as usize];
-    if count_rows(counter, packet, position, &shape, first, last) {
+    if count_rows(counter, packet, position, shape, first, last) {
         None
     } else {
         Some(last - first)
@@ -204,17 +206,12 @@ fn count_rows<K: Kind>(
     ensures moved { HasMoved counter.old counter.new (last - first) result }
 {
     let _amount = packet.amount;
-    let key = packet.key;
     let key_hash = key_hash(&packet.key);
     for row in first..last {
         let hash = hash_in_row(key_hash, row);
-        let update = Update {
-            packet: position,
-            key,
-            cell: cell_in_row(shape, hash, row),
-            value: K::value_in_row(shape, packet, row, hash),
-        };
-        if is_waiting(counter.count(&update)) {
+        let cell = cell_in_row(shape, hash, row);
+        let value = K::value_in_row(shape, packet, row, hash);
+        if is_waiting(counter.count(position, &packet.key, cell, value)) {
             return true;
         }
     }

@@ -7,7 +7,8 @@ ghost use Rattle.push_history.specs.Updates.{update_at};
 
 use crate::Private;
 use flow_base::NoMemory;
-use hash_rows::{Bits, Full, Kind, Push, Update};
+use hash_rows::{Bits, Full, Kind, Push};
+use packet_key::FlowKey;
 use push_history::Reply;
 use std::alloc::Global;
 use std::marker::Model;
@@ -153,6 +154,15 @@ impl<K: Kind> Counter<K> {
         self.sketch.residue(cell)
     }
 
+    /// Whether the push of this update was refused.
+    pub fn refused_at(&self, update: u32) -> bool
+        requires { update < self.now.sketch.room }
+        ensures { (t : Terms) (w : ℕ) (x : Worker) → t.rules ≡ K.rules → Keeps K.stands t w self.now x
+            → result ≡ is_refused update x.refused }
+    {
+        self.sketch.refused_at(update)
+    }
+
     /// For each update whether its push was refused.
     pub fn into_bits(self) -> Bits
         ensures refused { (t : Terms) (w : ℕ) (x : Worker) → t.rules ≡ K.rules → Keeps K.stands t w self x
@@ -165,13 +175,13 @@ impl<K: Kind> Counter<K> {
     /// Takes up an update: counts it, and sends a push that is due, or refuses it at a full lane.
     /// Where pushes wait, one that meets a full lane changes nothing.
     #[inline(always)]
-    pub fn count(&mut self, update: &Update) -> Reply
+    pub fn count(&mut self, packet: u32, key: &FlowKey, cell: u32, value: i64) -> Reply
         requires sketch { self.old.sketch.counted < self.old.sketch.room }
-        requires cell { update.now.cell < length self.old.sketch.held }
-        requires value { K.rules.is_value update.now.value ≡ true }
+        requires cell { cell < length self.old.sketch.held }
+        requires value { K.rules.is_value value ≡ true }
         requires room { length self.old.queue < self.old.room }
         ensures keeps { (t : Terms) (w : ℕ) (x : Worker) → t.rules ≡ K.rules → Keeps K.stands t w self.old x
-            → x.counted < length (updates_by t w) → update_at (updates_by t w) x.counted ≡ update.now
+            → x.counted < length (updates_by t w) → update_at (updates_by t w) x.counted ≡ record { packet = packet; key = key.now; cell = cell; value = value }
             → Keeps K.stands t w self.new (count_step t w x).0 × (result ≡ (count_step t w x).1) }
         ensures same { KeepsSettings self.old self.new }
         ensures queue { length self.new.queue ≤ length self.old.queue + 1 }
@@ -180,21 +190,21 @@ impl<K: Kind> Counter<K> {
         ensures counted { self.new.sketch.counted ≡ (if is_waits result then self.old.sketch.counted else self.old.sketch.counted + 1) }
     {
         if self.held() < self.lane {
-            return self.count_with_room(update);
+            return self.count_with_room(packet, key, cell, value);
         }
-        self.count_at_full_lane(update)
+        self.count_at_full_lane(packet, key, cell, value)
     }
 
     // The same, where the lane has room.
     #[inline(always)]
-    fn count_with_room(&mut self, update: &Update) -> Reply
+    fn count_with_room(&mut self, packet: u32, key: &FlowKey, cell: u32, value: i64) -> Reply
         requires lane { in_lane self.old < self.old.lane }
         requires sketch { self.old.sketch.counted < self.old.sketch.room }
-        requires cell { update.now.cell < length self.old.sketch.held }
-        requires value { K.rules.is_value update.now.value ≡ true }
+        requires cell { cell < length self.old.sketch.held }
+        requires value { K.rules.is_value value ≡ true }
         requires room { length self.old.queue < self.old.room }
         ensures keeps { (t : Terms) (w : ℕ) (x : Worker) → t.rules ≡ K.rules → Keeps K.stands t w self.old x
-            → x.counted < length (updates_by t w) → update_at (updates_by t w) x.counted ≡ update.now
+            → x.counted < length (updates_by t w) → update_at (updates_by t w) x.counted ≡ record { packet = packet; key = key.now; cell = cell; value = value }
             → Keeps K.stands t w self.new (count_step t w x).0 × (result ≡ (count_step t w x).1) }
         ensures same { KeepsSettings self.old self.new }
         ensures queue { length self.new.queue ≤ length self.old.queue + 1 }
@@ -203,16 +213,16 @@ impl<K: Kind> Counter<K> {
         ensures counted { self.new.sketch.counted ≡ (if is_waits result then self.old.sketch.counted else self.old.sketch.counted + 1) }
     {
         let number = self.sketch.counted();
-        match self.sketch.count(update.cell, update.value) {
+        match self.sketch.count(cell, value) {
             None => Reply::Counted,
             Some(amount) => {
                 self.sketch.sent();
                 self.queue.push_reserved(Push {
                     worker: self.worker,
-                    packet: update.packet,
+                    packet,
                     update: number,
-                    key: update.key,
-                    cell: update.cell,
+                    key: *key,
+                    cell,
                     amount,
                 });
                 Reply::Pushed { amount }
@@ -222,13 +232,13 @@ impl<K: Kind> Counter<K> {
 
     // The same, where the lane is full.
     #[inline(always)]
-    fn count_at_full_lane(&mut self, update: &Update) -> Reply
+    fn count_at_full_lane(&mut self, packet: u32, key: &FlowKey, cell: u32, value: i64) -> Reply
         requires lane { self.old.lane ≤ in_lane self.old }
         requires sketch { self.old.sketch.counted < self.old.sketch.room }
-        requires cell { update.now.cell < length self.old.sketch.held }
-        requires value { K.rules.is_value update.now.value ≡ true }
+        requires cell { cell < length self.old.sketch.held }
+        requires value { K.rules.is_value value ≡ true }
         ensures keeps { (t : Terms) (w : ℕ) (x : Worker) → t.rules ≡ K.rules → Keeps K.stands t w self.old x
-            → x.counted < length (updates_by t w) → update_at (updates_by t w) x.counted ≡ update.now
+            → x.counted < length (updates_by t w) → update_at (updates_by t w) x.counted ≡ record { packet = packet; key = key.now; cell = cell; value = value }
             → Keeps K.stands t w self.new (count_step t w x).0 × (result ≡ (count_step t w x).1) }
         ensures same { KeepsSettings self.old self.new }
         ensures queue { length self.new.queue ≤ length self.old.queue + 1 }
@@ -236,44 +246,46 @@ impl<K: Kind> Counter<K> {
         ensures grows { Extends self.old.queue self.new.queue }
         ensures counted { self.new.sketch.counted ≡ (if is_waits result then self.old.sketch.counted else self.old.sketch.counted + 1) }
     {
-        if self.waits_with(update) {
+        if self.waits_with(packet, key, cell, value) {
             return Reply::Waits;
         }
-        self.count_or_refuse(update)
+        self.count_or_refuse(packet, key, cell, value)
     }
 
     // Whether the update makes a push due that has to wait.
     #[inline(always)]
-    fn waits_with(&self, update: &Update) -> bool
+    fn waits_with(&self, packet: u32, key: &FlowKey, cell: u32, value: i64) -> bool
         requires sketch { self.now.sketch.counted < self.now.sketch.room }
-        requires cell { update.now.cell < length self.now.sketch.held }
-        requires value { K.rules.is_value update.now.value ≡ true }
+        requires cell { cell < length self.now.sketch.held }
+        requires value { K.rules.is_value value ≡ true }
         ensures { (t : Terms) (w : ℕ) (x : Worker) → t.rules ≡ K.rules → Keeps K.stands t w self.now x
-            → x.counted < length (updates_by t w) → update_at (updates_by t w) x.counted ≡ update.now
+            → x.counted < length (updates_by t w) → update_at (updates_by t w) x.counted ≡ record { packet = packet; key = key.now; cell = cell; value = value }
             → result ≡ (is_wait self.now.full && nat_le t.threshold (distance_at t.rules (updates_by t w) x.sent x.counted)) }
     {
+        let (_packet, _key) = (packet, key);
         match self.full {
             Full::Leave => false,
-            Full::Wait => self.sketch.due_with(update.cell, update.value),
+            Full::Wait => self.sketch.due_with(cell, value),
         }
     }
 
     // Counts the update, and refuses a push that is due.
     #[inline(always)]
-    fn count_or_refuse(&mut self, update: &Update) -> Reply
+    fn count_or_refuse(&mut self, packet: u32, key: &FlowKey, cell: u32, value: i64) -> Reply
         requires lane { self.old.lane ≤ in_lane self.old }
         requires sketch { self.old.sketch.counted < self.old.sketch.room }
-        requires cell { update.now.cell < length self.old.sketch.held }
-        requires value { K.rules.is_value update.now.value ≡ true }
+        requires cell { cell < length self.old.sketch.held }
+        requires value { K.rules.is_value value ≡ true }
         ensures keeps { (t : Terms) (w : ℕ) (x : Worker) → t.rules ≡ K.rules → Keeps K.stands t w self.old x
-            → x.counted < length (updates_by t w) → update_at (updates_by t w) x.counted ≡ update.now
+            → x.counted < length (updates_by t w) → update_at (updates_by t w) x.counted ≡ record { packet = packet; key = key.now; cell = cell; value = value }
             → (is_wait self.old.full && nat_le t.threshold (distance_at t.rules (updates_by t w) x.sent x.counted)) ≡ false
             → Keeps K.stands t w self.new (count_step t w x).0 × (result ≡ (count_step t w x).1) }
         ensures same { KeepsSettings self.old self.new }
         ensures queue { self.new.queue ≡ self.old.queue }
         ensures counted { self.new.sketch.counted ≡ (if is_waits result then self.old.sketch.counted else self.old.sketch.counted + 1) }
     {
-        match self.sketch.count(update.cell, update.value) {
+        let (_packet, _key) = (packet, key);
+        match self.sketch.count(cell, value) {
             None => Reply::Counted,
             Some(_) => {
                 self.sketch.refused();

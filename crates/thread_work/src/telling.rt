@@ -5,7 +5,8 @@ ghost use Rattle.hash_rows.specs.declared.shape.Update.{Update};
 ghost use Rattle.push_lane.specs.Views.{one_more_or_last};
 ghost use Rattle.thread_work.specs.Worked.{HasTold, KeepsSketch};
 
-use hash_rows::{Full, Kind, Push, Update};
+use hash_rows::{Full, Kind, Push};
+use packet_key::FlowKey;
 use push_lane::{InPass, Lane};
 use push_rule::Private;
 use std::sync::Wait;
@@ -34,15 +35,18 @@ pub fn tell<K: Kind, R: Wait>(
     rt: &R,
     worker: u32,
     full: Full,
-    update: &Update,
+    packet: u32,
+    key: &FlowKey,
+    cell: u32,
+    value: i64,
     sketch: &mut Private<K>,
     lane: &Lane,
     pass: &mut InPass,
 )
     requires idle { sketch.old.due ≡ None }
     requires room { sketch.old.counted < sketch.old.room }
-    requires cell { update.now.cell < length sketch.old.held }
-    requires value { K.rules.is_value update.now.value ≡ true }
+    requires cell { cell < length sketch.old.held }
+    requires value { K.rules.is_value value ≡ true }
     requires lane { pass.old.id ≡ lane.now.id }
     requires few { length pass.old.sent ≤ sketch.old.counted }
     ensures idle { sketch.new.due ≡ None }
@@ -51,18 +55,19 @@ pub fn tell<K: Kind, R: Wait>(
     ensures lane { pass.new.id ≡ lane.now.id }
     ensures few { length pass.new.sent ≤ sketch.new.counted }
     ensures told { (updates : List Update) → HasTold K.stands K.rules worker lane.now.capacity full sketch.old pass.old updates
-        → HasTold K.stands K.rules worker lane.now.capacity full sketch.new pass.new (updates ++ update.now ∷ []) }
+        → HasTold K.stands K.rules worker lane.now.capacity full sketch.new pass.new 
+        (updates ++ record { packet = packet; key = key.now; cell = cell; value = value } ∷ []) }
 {
     let number = sketch.counted();
-    match sketch.count(update.cell, update.value) {
+    match sketch.count(cell, value) {
         None => (),
         Some(amount) => {
             let message = Push {
                 worker,
-                packet: update.packet,
+                packet,
                 update: number,
-                key: update.key,
-                cell: update.cell,
+                key: *key,
+                cell,
                 amount,
             };
             if send(rt, full, lane, pass, message) {

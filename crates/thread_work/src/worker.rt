@@ -9,7 +9,7 @@ ghost use Rattle.thread_work.specs.Worked.{HasTold, KeepsSketch, updates_of_pack
 
 use crate::gate::Gate;
 use crate::telling::tell;
-use hash_rows::{Full, Kind, Packet, Shape, Update, cell_in_row, hash_in_row, key_hash};
+use hash_rows::{Full, Kind, Packet, Shape, cell_in_row, hash_in_row, key_hash};
 use push_lane::{InPass, Lane};
 use push_rule::Private;
 use shares::Positions;
@@ -43,17 +43,14 @@ fn tell_packet<K: Kind, R: Wait>(
         (updates ++ updates_of_packet K.rules shape.now position packet.now shape.now.rows) }
 {
     let _amount = packet.amount;
-    let key = packet.key;
     let key_hash = key_hash(&packet.key);
     for row in 0..shape.rows {
         let hash = hash_in_row(key_hash, row);
-        let update = Update {
-            packet: position,
-            key,
-            cell: cell_in_row(shape, hash, row),
-            value: K::value_in_row(shape, packet, row, hash),
-        };
-        tell(rt, worker, full, &update, sketch, lane, pass);
+        let cell = cell_in_row(shape, hash, row);
+        let value = K::value_in_row(shape, packet, row, hash);
+        tell(
+            rt, worker, full, position, &packet.key, cell, value, sketch, lane, pass,
+        );
     }
 }
 

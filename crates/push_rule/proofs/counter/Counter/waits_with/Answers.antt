@@ -11,8 +11,8 @@ use Rattle.push_rule.proofs.counter.Counter.waits_with.Goals as goal
 
 pub returns-in-Wait : goal.returns-in-Wait
 returns-in-Wait g c = λ t w x same keeps lt at.
-    let fits : SFits w64 c.args.update.now.value = search rules in
+    let fits : SFits w64 c.args.value = search rules in
     let inner = subst (λ (d : CounterView g.row.K-Held.Denot). Keeps g.K.Kind.stands t w d x) (sym c.self.view_is) keeps in
     let full : is_wait c.args.self.now.full ≡ true = ap (λ (d : CounterView g.row.K-Held.Denot). is_wait d.full) (sym c.self.view_is) ∙ ap is_wait c.in-Wait.is in
-    let due = due_is g.K.Kind.stands t w _ x c.args.update.now inner lt at g.K.Kind.rules same _ (to_z-of_z w64 c.args.update.now.value fits) c.due_with.result c.due_with.ensures.stands in
+    let due = due_is g.K.Kind.stands t w _ x (record { packet = c.args.packet; key = c.args.key.now; cell = c.args.cell; value = c.args.value }) inner lt at g.K.Kind.rules same _ (to_z-of_z w64 c.args.value fits) c.due_with.result c.due_with.ensures.stands in
     due ∙ ap (λ (b : Bool). b && nat_le t.threshold (distance_at t.rules (updates_by t w) x.sent x.counted)) (sym full)
