@@ -1,4 +1,4 @@
--- What an entry makes of a page whose cells stand bare.
+-- What an entry makes of a published state whose cells stand bare.
 use Rattle.std.proofs.Common.{◌≡◌, ℕ, ℤ, ◌<◌, ◌&&◌, true, false, cond, List, length, get_or, set, pos, to_z, of_z, w64, sym, ap, ◌∙◌, arith}
 use Rattle.std.specs.Prelude.{nat_lt, slice_get, Some}
 use Rattle.std.proofs.lemmas.Int.{to_z-of_z}
@@ -19,8 +19,8 @@ use Rattle.live_state.specs.Tallies.{Tallied, counted, key_noted_in, table_noted
 use Rattle.live_view.specs.Views.{History, PublishedView}
 use Rattle.live_view.specs.Rule.{turned}
 
-abbrev pub page_of : Shape → List ℤ → Tallied → History → PublishedView
-page_of shape cells t history = record {
+abbrev pub published_of : Shape → List ℤ → Tallied → History → PublishedView
+published_of shape cells t history = record {
   figures = record { table = record { shape = shape; cells = cells }; front = t.front; upto = t.upto; folded = t.folded; heavy = t.heavy };
   history = history;
 }
@@ -42,17 +42,17 @@ noted_not r table t key keyed =
     let found = noted t.heavy key (r.estimate table.shape table.cells key) in
     ap (λ b. record { front = t.front; upto = t.upto; folded = t.folded; heavy = cond b found t.heavy }) (sym keyed)
 
-pub turned_as : (r : Rules) (shape : Shape) (cells after : List ℤ) (t u : Tallied) (history stamp : History) (e : Entry)
+pub turned_as : (r : Rules) (shape : Shape) (cells after : List ℤ) (t u : Tallied) (history prefix : History) (e : Entry)
     → e.message.worker < length t.front → e.message.cell < size_of shape → r.is_value e.message.amount ≡ true
     → after ≡ joined_at r.join cells e.message.cell e.message.amount
-    → u ≡ table_noted r (record { shape = shape; cells = after }) (counted t e.message.worker e.message.update) e.message.key → stamp ≡ e.stamp
-    → page_of shape after u stamp ≡ turned r (page_of shape cells t history) e
-turned_as r shape cells after t u history stamp e worker cell value joined is taken =
+    → u ≡ table_noted r (record { shape = shape; cells = after }) (counted t e.message.worker e.message.update) e.message.key → prefix ≡ e.prefix
+    → published_of shape after u prefix ≡ turned r (published_of shape cells t history) e
+turned_as r shape cells after t u history prefix e worker cell value joined is taken =
     let m = e.message in
-    let figures = (page_of shape cells t history).figures in
+    let figures = (published_of shape cells t history).figures in
     let fit = fits_with r (layout_of figures) m worker cell value in
     let tally = is ∙ ap (λ cs. table_noted r (record { shape = shape; cells = cs }) (counted t m.worker m.update) m.key) joined in
-    (λ i. page_of shape (joined i) (tally i) (taken i)) ∙ ap (λ b. record { figures = cond b (added r figures m) figures; history = e.stamp }) (sym fit)
+    (λ i. published_of shape (joined i) (tally i) (taken i)) ∙ ap (λ b. record { figures = cond b (added r figures m) figures; history = e.prefix }) (sym fit)
 
 -- the cells with a joined value put into its place, read and written as numbers of 64 bits with sign
 pub joined_cells : (join : ℤ → ℤ → ℤ) (items after : List ℤ) (cell : ℕ) (got result amount : ℤ) → slice_get items cell ≡ Some got

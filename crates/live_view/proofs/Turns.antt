@@ -56,13 +56,13 @@ module _ (r : Rules) where
   pub empty : (z : Layout) → IsStateAfter r (fresh_state z) []
   empty z = record { fit = All-nil _; sums = ap fresh_state (sym (fresh_layout z)) }
 
-  -- what all entries of a chain make of a page
+  -- what all entries of a chain make of a published state
   pub turned_all : (p : PublishedView) (es : List Entry) → IsChain p.history es → fold (turned r) p es ≡ record { figures = fold (absorbed r) p.figures (messages es); history = with_all p.history (messages es) }
   turned_all p [] h = λ i. record { figures = p.figures; history = record { book = p.history.book; log = sym (append-nil p.history.log) i } }
   turned_all p (e ∷ es) h =
       let q : PublishedView = turned r p e in
       let rest = turned_all q es h.1 in
-      let log : e.stamp.log ++ messages es ≡ p.history.log ++ e.message ∷ messages es = ap (λ (s : History). s.log ++ messages es) h.0 ∙ append_assoc p.history.log (e.message ∷ []) (messages es) in
+      let log : e.prefix.log ++ messages es ≡ p.history.log ++ e.message ∷ messages es = ap (λ (s : History). s.log ++ messages es) h.0 ∙ append_assoc p.history.log (e.message ∷ []) (messages es) in
       rest ∙ (λ i. record { figures = fold (absorbed r) p.figures (e.message ∷ messages es); history = record { book = (h.0 i).book; log = log i } })
 
   pub same_pair : (p q : PublishedView) (es : List Entry) → IsChain p.history es → q ≡ fold (turned r) p es → pair_of q ≡ pair_of p

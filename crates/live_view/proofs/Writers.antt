@@ -19,21 +19,21 @@ use Rattle.live_view.proofs.Turns.{turned_all, sums_go_on}
 with_none : (s : History) → with_all s [] ≡ s
 with_none s = λ i. record { book = s.book; log = append-nil s.log i }
 
-pub chain_on : (s : History) (es : List Entry) (e : Entry) → IsChain s es → e.stamp ≡ longer (with_all s (messages es)) e.message → IsChain s (es ++ e ∷ [])
+pub chain_on : (s : History) (es : List Entry) (e : Entry) → IsChain s es → e.prefix ≡ longer (with_all s (messages es)) e.message → IsChain s (es ++ e ∷ [])
 chain_on s [] e h is = (is ∙ ap (λ t. longer t e.message) (with_none s), tt)
 chain_on s (x ∷ es) e h is =
-    let log : x.stamp.log ++ messages es ≡ s.log ++ x.message ∷ messages es = ap (λ (t : History). t.log ++ messages es) h.0 ∙ append_assoc s.log (x.message ∷ []) (messages es) in
-    let same : with_all x.stamp (messages es) ≡ with_all s (x.message ∷ messages es) = λ i. record { book = (h.0 i).book; log = log i } in
-    (h.0, chain_on x.stamp es e h.1 (is ∙ ap (λ t. longer t e.message) (sym same)))
+    let log : x.prefix.log ++ messages es ≡ s.log ++ x.message ∷ messages es = ap (λ (t : History). t.log ++ messages es) h.0 ∙ append_assoc s.log (x.message ∷ []) (messages es) in
+    let same : with_all x.prefix (messages es) ≡ with_all s (x.message ∷ messages es) = λ i. record { book = (h.0 i).book; log = log i } in
+    (h.0, chain_on x.prefix es e h.1 (is ∙ ap (λ t. longer t e.message) (sym same)))
 
 -- the message was late already, or it comes next
 abbrev pub Stepped : HistoryWriter → Push → History → Type 0
-Stepped old m s = ((old.stuck ≡ Some m) × (s ≡ old.stamp)) ⊎ ((old.stuck ≡ None) × (s ≡ longer old.stamp m))
+Stepped old m s = ((old.stuck ≡ Some m) × (s ≡ old.prefix)) ⊎ ((old.stuck ≡ None) × (s ≡ longer old.prefix m))
 
-stepped : (base : History) (old : HistoryWriter) (m : Push) (s : History) → old.stamp ≡ late old.stuck base → Stepped old m s → s ≡ longer base m
+stepped : (base : History) (old : HistoryWriter) (m : Push) (s : History) → old.prefix ≡ late old.stuck base → Stepped old m s → s ≡ longer base m
 stepped base old m s h step = ⊎_elim
-    (λ (t : (old.stuck ≡ Some m) × (s ≡ old.stamp)). t.1 ∙ (h ∙ ap (λ o. late o base) t.0))
-    (λ (t : (old.stuck ≡ None) × (s ≡ longer old.stamp m)). t.1 ∙ ap (λ x. longer x m) (h ∙ ap (λ o. late o base) t.0))
+    (λ (t : (old.stuck ≡ Some m) × (s ≡ old.prefix)). t.1 ∙ (h ∙ ap (λ o. late o base) t.0))
+    (λ (t : (old.stuck ≡ None) × (s ≡ longer old.prefix m)). t.1 ∙ ap (λ x. longer x m) (h ∙ ap (λ o. late o base) t.0))
     step
 
 late_length : (o : Option Push) (s : History) → length s.log ≤ length (late o s).log
@@ -47,7 +47,7 @@ module _ (r : Rules) where
     seat_is = refl;
     fit = All-nil (λ (x : Push). fits r (layout_of q.figures) x ≡ true);
     chain = tt;
-    stamp = h.stamp ∙ ap (late history_writer.stuck) (sym (with_none q.history ∙ ap (λ (x : PublishedView). x.history) all));
+    prefix = h.prefix ∙ ap (late history_writer.stuck) (sym (with_none q.history ∙ ap (λ (x : PublishedView). x.history) all));
     count = h.count;
     room = h.room;
   }
@@ -60,30 +60,30 @@ module _ (r : Rules) where
       ap (λ (z : Notes). z.known) seat ∙ (ap (λ (x : PublishedView). x.history.log) all ∙ ap (λ (z : Notes). z.known ++ messages es) (sym h.seat_is))
 
   appended_here : (p : PublishedView) (v : Notes) (es : List Entry) (old new : HistoryWriter) (e : Entry) → IsWriter r p v es old → fits r (layout_of p.figures) e.message ≡ true
-      → e.stamp ≡ new.stamp → Stepped old e.message new.stamp → new.count ≡ length new.stamp.log → new.count < most → new.stuck ≡ None → IsWriter r p v (es ++ e ∷ []) new
+      → e.prefix ≡ new.prefix → Stepped old e.message new.prefix → new.count ≡ length new.prefix.log → new.count < most → new.stuck ≡ None → IsWriter r p v (es ++ e ∷ []) new
   appended_here p v es old new e h fit same step count room none =
       let P : Push → Type 0 = λ x. fits r (layout_of p.figures) x ≡ true in
       let mapped : messages (es ++ e ∷ []) ≡ messages es ++ e.message ∷ [] = map-append (λ (x : Entry). x.message) es (e ∷ []) in
-      let next : new.stamp ≡ longer (with_all p.history (messages es)) e.message = stepped (with_all p.history (messages es)) old e.message new.stamp h.stamp step in
+      let next : new.prefix ≡ longer (with_all p.history (messages es)) e.message = stepped (with_all p.history (messages es)) old e.message new.prefix h.prefix step in
       let log : (p.history.log ++ messages es) ++ e.message ∷ [] ≡ p.history.log ++ messages (es ++ e ∷ []) = append_assoc p.history.log (messages es) (e.message ∷ []) ∙ ap (λ (l : List Push). p.history.log ++ l) (sym mapped) in
       record {
         sums = h.sums;
         seat_is = h.seat_is;
         fit = subst (λ (l : List Push). Fit r (layout_of p.figures) l) (sym mapped) (All-append P (messages es) (e.message ∷ []) h.fit (All-cons P e.message [] fit (All-nil P)));
         chain = chain_on p.history es e h.chain (same ∙ next);
-        stamp = next ∙ ((λ i. record { book = p.history.book; log = log i }) ∙ ap (λ o. late o (with_all p.history (messages (es ++ e ∷ [])))) (sym none));
+        prefix = next ∙ ((λ i. record { book = p.history.book; log = log i }) ∙ ap (λ o. late o (with_all p.history (messages (es ++ e ∷ [])))) (sym none));
         count = count;
         room = room;
       }
 
   pub appended : (p p' : PublishedView) (v v' : Notes) (es es' : List Entry) (old new : HistoryWriter) (e : Entry) → IsWriter r p v es old → p' ≡ p → v' ≡ v → es' ≡ es ++ e ∷ [] → fits r (layout_of p.figures) e.message ≡ true
-      → e.stamp ≡ new.stamp → Stepped old e.message new.stamp → new.count ≡ length new.stamp.log → new.count < most → new.stuck ≡ None → IsWriter r p' v' es' new
+      → e.prefix ≡ new.prefix → Stepped old e.message new.prefix → new.count ≡ length new.prefix.log → new.count < most → new.stuck ≡ None → IsWriter r p' v' es' new
   appended p p' v v' es es' old new e h ip iv ies fit same step count room none =
       subst (λ (z : PublishedView × (Notes × List Entry)). IsWriter r z.0 z.1.0 z.1.1 new) (λ i. (sym ip i, (sym iv i, sym ies i))) (appended_here p v es old new e h fit same step count room none)
 
   pub short : (p : PublishedView) (v : Notes) (es : List Entry) (history_writer : HistoryWriter) → IsWriter r p v es history_writer → length p.history.log < most
   short p v es history_writer h =
-      let one : length history_writer.stamp.log ≡ length (late history_writer.stuck (with_all p.history (messages es))).log = ap (λ (s : History). length s.log) h.stamp in
+      let one : length history_writer.prefix.log ≡ length (late history_writer.stuck (with_all p.history (messages es))).log = ap (λ (s : History). length s.log) h.prefix in
       omega (arith, late_length history_writer.stuck (with_all p.history (messages es)), one, h.count, h.room, length-append p.history.log (messages es))
 
   pub counted : (p : PublishedView) (v : Notes) (es : List Entry) (history_writer : HistoryWriter) → IsWriter r p v es history_writer → p.figures.folded ≡ length p.history.log

@@ -30,7 +30,7 @@ paired b z = record { book = name_of b; layout = z }
 abbrev pub pair_of : PublishedView → Pair
 pair_of p = paired p.history.book (layout_of p.figures)
 
--- the known list begins the history of the page, and the pair is its own
+-- the known list begins the history of the published state, and the pair is its own
 pub record Knows (p : PublishedView) (v : Notes) : Type 0 where
   pub known : IsPrefix v.known p.history.log
   pub pair : IfSome v.pair (λ z. z ≡ pair_of p)
@@ -40,15 +40,15 @@ pub record IsPublished (r : Rules) (p : PublishedView) (views : List Notes) : Ty
   pub sums : IsStateAfter r p.figures p.history.log
   pub known : (seat : ℕ) (v : Notes) → get_elem? views seat ≡ some v → Knows p v
 
--- the whole history of the page is known afterwards
+-- the whole history of the published state is known afterwards
 pub record Entered (r : Rules) (v : Notes) (p : PublishedView) (w : Notes) : Type 0 where
   pub sums : IsStateAfter r p.figures p.history.log
   pub before : Knows p v
   pub seat : w ≡ notes p.history.log v.pair
 
--- what an entry makes of a page
+-- what an entry makes of a published state
 abbrev pub turned : Rules → PublishedView → Entry → PublishedView
-turned r p e = record { figures = absorbed r p.figures e.message; history = e.stamp }
+turned r p e = record { figures = absorbed r p.figures e.message; history = e.prefix }
 
 -- the messages of some entries
 abbrev pub messages : List Entry → List Push
@@ -57,7 +57,7 @@ messages es = map (λ (e : Entry). e.message) es
 -- each entry has the history of one message more
 abbrev pub IsChain : History → List Entry → Type 0
 IsChain s [] = Unit {0}
-IsChain s (e ∷ es) = (e.stamp ≡ longer s e.message) × IsChain e.stamp es
+IsChain s (e ∷ es) = (e.prefix ≡ longer s e.message) × IsChain e.prefix es
 
 -- the history, with a message that stands in the history alone
 abbrev pub late : Option Push → History → History

@@ -97,28 +97,28 @@ impl HistoryPrefix {
 pub struct Entry {
     pub message: Push,
     /// The history up to this message.
-    pub stamp: HistoryPrefix,
+    pub prefix: HistoryPrefix,
 }
 
 /// The word of the history, which is its length, and all that was seen.
 #[derive(Drop)]
 pub struct HistoryWriter {
     pub head: Word<Push, u64, HistoryRule>,
-    pub stamp: HistoryPrefix,
+    pub prefix: HistoryPrefix,
     pub count: u64,
     /// A message that stands in the history, and was refused by the pair.
     pub stuck: Option<Push>,
-    pub ghost head_is: { head ≡ head_of stamp.book },
+    pub ghost head_is: { head ≡ head_of prefix.book },
 }
 
 impl HistoryWriter {
     pub fn open() -> HistoryWriter
-        ensures { (result.stamp.log ≡ []) × (result.count ≡ 0) × (result.stuck ≡ None) }
+        ensures { (result.prefix.log ≡ []) × (result.count ≡ 0) × (result.stuck ≡ None) }
     {
         let (seen, mut first, _second) = Seen::open(Start::alone(), 0, 0);
         HistoryWriter {
             head: Word::tracked(0, &mut first),
-            stamp: HistoryPrefix { seen },
+            prefix: HistoryPrefix { seen },
             count: 0,
             stuck: None,
         }
@@ -126,13 +126,13 @@ impl HistoryWriter {
 
     /// Puts the message into the history, unless it stands there as the one that was refused.
     pub fn ready(&mut self, message: Push) -> bool
-        requires count { self.old.count ≡ length self.old.stamp.log }
+        requires count { self.old.count ≡ length self.old.prefix.log }
         requires room { self.old.count < most }
-        ensures book { self.new.stamp.book ≡ self.old.stamp.book }
-        ensures count { (self.new.count ≡ length self.new.stamp.log) × (self.new.count < most) }
+        ensures book { self.new.prefix.book ≡ self.old.prefix.book }
+        ensures count { (self.new.count ≡ length self.new.prefix.log) × (self.new.count < most) }
         ensures ready { MatchBool result ((self.new.stuck ≡ Some message)
-            × (((self.old.stuck ≡ Some message) × (self.new.stamp ≡ self.old.stamp))
-            ⊎ ((self.old.stuck ≡ None) × (self.new.stamp ≡ longer self.old.stamp message)))) (self.new ≡ self.old) }
+            × (((self.old.stuck ≡ Some message) × (self.new.prefix ≡ self.old.prefix))
+            ⊎ ((self.old.stuck ≡ None) × (self.new.prefix ≡ longer self.old.prefix message)))) (self.new ≡ self.old) }
     {
         if let Some(late) = self.stuck {
             return late == message;
@@ -140,9 +140,9 @@ impl HistoryWriter {
         if self.count >= u64::MAX - 2 {
             return false;
         }
-        match extended(&self.head, &self.stamp, self.count, message) {
-            Some(stamp) => {
-                self.stamp = stamp;
+        match extended(&self.head, &self.prefix, self.count, message) {
+            Some(prefix) => {
+                self.prefix = prefix;
                 self.count += 1;
                 self.stuck = Some(message);
                 true
@@ -155,16 +155,16 @@ impl HistoryWriter {
 // The history with one message more. It is never refused, since nobody else has the word, but no clause says so.
 fn extended(
     head: &Word<Push, u64, HistoryRule>,
-    stamp: &HistoryPrefix,
+    prefix: &HistoryPrefix,
     count: u64,
     message: Push,
 ) -> Option<HistoryPrefix>
-    requires head { head.now ≡ head_of stamp.now.book }
-    requires count { count ≡ length stamp.now.log }
+    requires head { head.now ≡ head_of prefix.now.book }
+    requires count { count ≡ length prefix.now.log }
     requires room { count < most }
-    ensures { IfSome result (λ s. s ≡ longer stamp.now message) }
+    ensures { IfSome result (λ s. s ≡ longer prefix.now message) }
 {
-    let mut seen = stamp.seen.again();
+    let mut seen = prefix.seen.again();
     let mut offer: Offer<Push, u64, HistoryRule, Nothing> = seen.plain::<Nothing, Push, Add>(
         &message,
     );

@@ -43,8 +43,8 @@ pub fn make_views<K: Kind, R: Wait>(
         least,
     };
     let history_writer = HistoryWriter::open();
-    let first = Published::new(alloc, &layout, history_writer.stamp.again())?;
-    let second = Published::new(alloc, &layout, history_writer.stamp.again())?;
+    let first = Published::new(alloc, &layout, history_writer.prefix.again())?;
+    let second = Published::new(alloc, &layout, history_writer.prefix.again())?;
     let Ok(writer) = Writer::new(alloc, first, second, readers as usize + 1) else {
         return Err(NoMemory);
     };

@@ -21,7 +21,7 @@ pub struct Published<K: Kind> {
     shape: Shape,
     cells: Cells,
     tally: Tally,
-    stamp: HistoryPrefix,
+    prefix: HistoryPrefix,
     kind: PhantomData<K>,
 }
 
@@ -41,7 +41,7 @@ impl<K: Kind> Model for Published<K> {
         folded = p.tally.folded;
         heavy = p.tally.heavy;
       };
-      history = p.stamp;
+      history = p.prefix;
     } };
 
     ghost invariant = { λ p. IsShape p.shape × (length p.cells.items ≡ size_of p.shape) × AreValues K.rules p.cells.items };
@@ -52,12 +52,12 @@ impl<K: Kind> Published<K> {
     pub fn new(
         alloc: Global,
         layout: &Layout,
-        stamp: HistoryPrefix,
+        prefix: HistoryPrefix,
     ) -> Result<Published<K>, NoMemory>
         requires shape { IsShape layout.now.shape }
         requires heavy { (1 ≤ layout.now.heavy) × (layout.now.heavy ≤ 1024) }
-        ensures figures { IfOk result (λ page. page.figures ≡ fresh_state layout.now) }
-        ensures history { IfOk result (λ page. page.history ≡ stamp) }
+        ensures figures { IfOk result (λ published. published.figures ≡ fresh_state layout.now) }
+        ensures history { IfOk result (λ published. published.history ≡ prefix) }
     {
         let cells = Listed::filled(alloc, layout.shape.rows * layout.shape.columns, 0)?;
         let tally = Tally::new(alloc, layout.workers, layout.heavy, layout.least)?;
@@ -65,7 +65,7 @@ impl<K: Kind> Published<K> {
             shape: layout.shape,
             cells,
             tally,
-            stamp,
+            prefix,
             kind: PhantomData,
         })
     }
@@ -94,10 +94,10 @@ impl<K: Kind> Published<K> {
         K::estimate(&self.shape, self.cells.as_slice(), key)
     }
 
-    pub fn stamp(&self) -> &HistoryPrefix
+    pub fn prefix(&self) -> &HistoryPrefix
         ensures { result.now ≡ self.now.history }
     {
-        &self.stamp
+        &self.prefix
     }
 }
 
@@ -113,7 +113,7 @@ impl<K: Kind> Absorb<Entry> for Published<K> {
     // The methods of a table can't be called here, since they ask for a kind that any thread has.
     fn absorb_first(&mut self, operation: &Entry, _other: &Published<K>) -> Result<(), AllocError> {
         let message = &operation.message;
-        self.stamp = operation.stamp.again();
+        self.prefix = operation.prefix.again();
         if message.worker < self.tally.workers()
             && message.cell < self.cells.len()
             && K::is_value(message.amount)

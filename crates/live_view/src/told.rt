@@ -8,7 +8,7 @@ use std::marker::Model;
 /// The list that was published when it was made, and its length.
 #[derive(Drop)]
 pub struct Told {
-    stamp: HistoryPrefix,
+    prefix: HistoryPrefix,
     folded: u64,
 }
 
@@ -18,23 +18,23 @@ impl Model for Told {
 
     ghost Value = { History };
 
-    ghost view = { λ t. t.stamp };
+    ghost view = { λ t. t.prefix };
 
-    ghost invariant = { λ t. t.folded ≡ length t.stamp.log };
+    ghost invariant = { λ t. t.folded ≡ length t.prefix.log };
 }
 
 impl Told {
-    pub(crate) fn of(stamp: HistoryPrefix, folded: u64) -> Told
-        requires { folded ≡ length stamp.log }
-        ensures { result ≡ stamp }
+    pub(crate) fn of(prefix: HistoryPrefix, folded: u64) -> Told
+        requires { folded ≡ length prefix.log }
+        ensures { result ≡ prefix }
     {
-        Told { stamp, folded }
+        Told { prefix, folded }
     }
 
-    pub(crate) fn stamp(&self) -> &HistoryPrefix
+    pub(crate) fn prefix(&self) -> &HistoryPrefix
         ensures { result.now ≡ self.now }
     {
-        &self.stamp
+        &self.prefix
     }
 
     /// The length of the list.
@@ -49,7 +49,7 @@ impl Told {
         ensures { result ≡ self.now }
     {
         Told {
-            stamp: self.stamp.again(),
+            prefix: self.prefix.again(),
             folded: self.folded,
         }
     }
@@ -63,10 +63,10 @@ impl Told {
         ensures one { (result.log ≡ self.now.log) ⊎ (result.log ≡ other.log) }
     {
         if self.folded < other.folded {
-            self.stamp.begins(&other.stamp);
+            self.prefix.begins(&other.prefix);
             return other;
         }
-        other.stamp.begins(&self.stamp);
+        other.prefix.begins(&self.prefix);
         self.again()
     }
 }

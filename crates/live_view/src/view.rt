@@ -55,29 +55,29 @@ where
         × (v.start.book ≡ v.told.book) × (v.start.log ≡ []) };
 }
 
-// Whether the told list begins that of the page, which is copied then.
+// Whether the told list begins that of the published state, which is copied then.
 fn taken<K: Kind>(
-    page: &Published<K>,
+    published: &Published<K>,
     layout: Layout,
     told: &Told,
     keys: &[FlowKey],
     into: &mut Answer,
 ) -> bool
-    requires pair { paired told.now.book layout ≡ pair_of page.now }
-    requires sums { IsStateAfter K.rules page.now.figures page.now.history.log }
+    requires pair { paired told.now.book layout ≡ pair_of published.now }
+    requires sums { IsStateAfter K.rules published.now.figures published.now.history.log }
     requires room { HasRoomFor layout.workers keys.now into.old }
     ensures room { HasRoomFor layout.workers keys.now into.new }
     ensures rest { KeepsRest into.old into.new }
     ensures taken { MatchBool result
-        (IsPrefix told.now.log page.now.history.log × Fit K.rules layout page.now.history.log
-        × IsCopyOf K.rules (state_after K.rules layout page.now.history.log) keys.now into.new)
+        (IsPrefix told.now.log published.now.history.log × Fit K.rules layout published.now.history.log
+        × IsCopyOf K.rules (state_after K.rules layout published.now.history.log) keys.now into.new)
         (into.new ≡ into.old) }
 {
-    if page.tally().folded() < told.folded() {
+    if published.tally().folded() < told.folded() {
         return false;
     }
-    told.stamp().begins(page.stamp());
-    copy(page, keys, into);
+    told.prefix().begins(published.prefix());
+    copy(published, keys, into);
     true
 }
 

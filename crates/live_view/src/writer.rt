@@ -118,9 +118,9 @@ impl<K: Kind> ViewWriter<K> {
         requires layout { layout ≡ layout_of writer.desk.shown.value.figures }
         requires none { drop writer.behind writer.log.items ≡ [] }
         requires zero { IsStateAfter K.rules writer.desk.shown.value.figures [] }
-        requires history_writer { (history_writer.stamp ≡ writer.desk.shown.value.history) × (history_writer.stamp.log ≡ [])
+        requires history_writer { (history_writer.prefix ≡ writer.desk.shown.value.history) × (history_writer.prefix.log ≡ [])
             × (history_writer.count ≡ 0) × (history_writer.stuck ≡ None) }
-        ensures book { result.book ≡ history_writer.stamp.book }
+        ensures book { result.book ≡ history_writer.prefix.book }
         ensures layout { result.layout ≡ layout }
         ensures empty { (result.published ≡ []) × (result.pending ≡ []) }
     {
@@ -143,7 +143,7 @@ impl<K: Kind> ViewWriter<K> {
         }
         let entry = Entry {
             message,
-            stamp: self.history_writer.stamp.again(),
+            prefix: self.history_writer.prefix.again(),
         };
         match self.writer.append(entry) {
             Ok(()) => (),
@@ -192,7 +192,7 @@ impl<K: Kind> ViewWriter<K> {
         ensures same { self.new ≡ self.old }
         ensures told { (result.book ≡ self.old.book) × (result.log ≡ self.old.published) }
     {
-        Told::of(self.writer.published().stamp().again(), self.folded())
+        Told::of(self.writer.published().prefix().again(), self.folded())
     }
 
     pub fn folded(&self) -> u64
@@ -209,8 +209,8 @@ impl<K: Kind> ViewWriter<K> {
         ensures fold { into.new ≡ state_after K.rules self.old.layout self.old.published }
         ensures fit { Fit K.rules self.old.layout self.old.published }
     {
-        let page = self.writer.published();
-        into.copy_parts(page.cells(), page.tally());
+        let published = self.writer.published();
+        into.copy_parts(published.cells(), published.tally());
     }
 
     /// Waits for the readers that are inside.

@@ -55,7 +55,7 @@ pub fn tell<K: Kind, R: Wait>(
     ensures lane { pass.new.id ≡ lane.now.id }
     ensures few { length pass.new.sent ≤ sketch.new.counted }
     ensures told { (updates : List Update) → HasTold K.stands K.rules worker lane.now.capacity full sketch.old pass.old updates
-        → HasTold K.stands K.rules worker lane.now.capacity full sketch.new pass.new 
+        → HasTold K.stands K.rules worker lane.now.capacity full sketch.new pass.new
         (updates ++ record { packet = packet; key = key.now; cell = cell; value = value } ∷ []) }
 {
     let number = sketch.counted();

@@ -49,7 +49,16 @@ fn tell_packet<K: Kind, R: Wait>(
         let cell = cell_in_row(shape, hash, row);
         let value = K::value_in_row(shape, packet, row, hash);
         tell(
-            rt, worker, full, position, &packet.key, cell, value, sketch, lane, pass,
+            rt,
+            worker,
+            full,
+            position,
+            &packet.key,
+            cell,
+            value,
+            sketch,
+            lane,
+            pass,
         );
     }
 }

@@ -71,7 +71,7 @@ returns-then-KEYED-clause-absorbed g c =
     let noted : c.note.new.self ≡ key_noted_in c.count.new.self m.key c.estimate-estimate.result = search rules in
     let found : c.estimate-estimate.result ≡ rules_of_kind.estimate c.self.inside.shape c.set.new.self.items m.key = c.estimate-estimate.ensures ∙ ap (λ cells. rules_of_kind.estimate c.self.inside.shape cells m.key) c.as_slice.ensures in
     let tally = noted_keyed rules_of_kind table c.count.new.self c.note.new.self m.key c.estimate-estimate.result keyed found noted ∙ ap (λ u. table_noted rules_of_kind table u m.key) counted_is in
-    turned_as rules_of_kind c.self.inside.shape items c.set.new.self.items t c.note.new.self c.self.inside.stamp c.again.result c.args.operation.now worker cell value now tally c.again.ensures
+    turned_as rules_of_kind c.self.inside.shape items c.set.new.self.items t c.note.new.self c.self.inside.prefix c.again.result c.args.operation.now worker cell value now tally c.again.ensures
     ∙ ap (λ p. turned rules_of_kind p c.args.operation.now) c.self.view_is
 
 pub returns-else-KEYED-clause-absorbed : goal.returns-else-KEYED-clause-absorbed
@@ -92,5 +92,5 @@ returns-else-KEYED-clause-absorbed g c =
     let table : TableView = record { shape = c.self.inside.shape; cells = c.set.new.self.items } in
     let keyed : rules_of_kind.keyed ≡ false = sym g.met.K.Kind.is_keyed ∙ (sym c.KEYED.ensures ∙ c.if-KEYED.false) in
     let tally = noted_not rules_of_kind table c.count.new.self m.key keyed ∙ ap (λ u. table_noted rules_of_kind table u m.key) counted_is in
-    turned_as rules_of_kind c.self.inside.shape items c.set.new.self.items t c.count.new.self c.self.inside.stamp c.again.result c.args.operation.now worker cell value now tally c.again.ensures
+    turned_as rules_of_kind c.self.inside.shape items c.set.new.self.items t c.count.new.self c.self.inside.prefix c.again.result c.args.operation.now worker cell value now tally c.again.ensures
     ∙ ap (λ p. turned rules_of_kind p c.args.operation.now) c.self.view_is
