@@ -1,6 +1,6 @@
 -- What each call of a core makes of it, and what each reading tells: `v` is what the core holds, and `o` what its caller
 -- sees of it.
-use Rattle.std.proofs.Common.{◌≡◌, ◌<◌, ◌-◌, ◌∙◌, ℕ, ℤ, pos, Bool, false, Some, List, length, take, set, get_or, slice_get, refl, sym, ap, subst, arith}
+use Rattle.std.proofs.Common.{◌≡◌, ◌<◌, ◌-◌, ◌∙◌, ℕ, ℤ, pos, Bool, Some, List, length, take, set, get_or, slice_get, refl, sym, ap, subst, arith}
 use Rattle.std.proofs.lemmas.Option.{get_or_from_slice_get, slice_get_read}
 use Rattle.listed.specs.Listed.{Listed}
 use Rattle.packet_key.specs.declared.key.FlowKey.{FlowKey}
@@ -21,6 +21,7 @@ use Rattle.push_history.specs.LiveHeavy.{live_keys}
 use Rattle.push_history.specs.Pushes.{is_refused}
 use Rattle.push_history.specs.Residue.{residue}
 use Rattle.push_history.specs.Shown.{shown_cells, shown_of}
+use Rattle.push_rule.specs.Counters.{CounterView}
 use Rattle.push_rule.specs.Keeps.{Keeps}
 use Rattle.fold_law.proofs.Sums.{count_min}
 use Rattle.bracket.specs.Bracket.{AreAmounts, IsNear}
@@ -28,7 +29,6 @@ use Rattle.bracket.proofs.Bracketed.{are_plain}
 use Rattle.bracket.proofs.Counted.{front_within, near_at}
 use Rattle.live_state.specs.Fold.{StateView, absorbed}
 use Rattle.lag_core.specs.declared.shown.ShownState.{ShownState}
-use Rattle.lag_core.specs.declared.worker.LagWorker.{LagWorker}
 use Rattle.lag_core.specs.Workers.{CanTakeUp, IsWorkerAt, Limits, terms_within}
 use Rattle.lag_core.specs.Lags.{Core, IsCoreAfter, IsCoreAt, Steps, refused_by_each, run_state, sent_by_each, shape_of, shown_messages, workers_of}
 use Rattle.lag_core.proofs.Counting.{held_is}
@@ -81,20 +81,22 @@ module _ {K H : Type 0} (stands : H → ℤ → ℤ → Type 0) (r : Rules) (v o
       (λ events h. subst (λ (x : Shape). slice_get (live_keys r x v.fold.heavy.limit v.fold.heavy.least (shown_messages (run_state r v events))) place ≡ Some key) (sym own)
       (live_at stands r v (run_state r v events) h place key (subst (λ (y : Core K H). place < y.shown.live) (sym same) below) at))
 
-  module _ (w : ℕ) (d : LagWorker K H) (at : slice_get v.workers w ≡ Some d) where
-    pub queued_read : (n : ℕ) → n ≡ length d.counter.queue - d.counter.taken → (events : List Event) → IsCoreAfter stands r o events
+  module _ (w : ℕ) (d : CounterView H) (at : slice_get v.workers w ≡ Some d) where
+    pub queued_read : (n : ℕ) → n ≡ length d.queue - d.taken → (events : List Event) → IsCoreAfter stands r o events
         → n ≡ length (worker_in (run_state r o events) w).sent - (worker_in (run_state r o events) w).taken
     queued_read n is = seen_as (λ _ s. n ≡ length (worker_in s w).sent - (worker_in s w).taken)
         (λ events h. is ∙ held_is stands (terms_within r v.limits) w d (worker_in (run_state r v events) w) (h.each w d at))
 
-    pub residue_read : (cell : ℕ) (z : ℤ) → ((t : Terms) (k : ℕ) (x : Worker) → t.rules ≡ r → Keeps stands t k d.counter x → z ≡ residue t.rules (updates_by t k) x.sent x.counted cell)
+    pub residue_read : (cell : ℕ) (z : ℤ) → ((t : Terms) (k : ℕ) (x : Worker) → t.rules ≡ r → Keeps stands t k d x → z ≡ residue t.rules (updates_by t k) x.sent x.counted cell)
         → (events : List Event) → IsCoreAfter stands r o events
         → z ≡ residue r (updates_by (terms_within r o.limits) w) (worker_in (run_state r o events) w).sent (worker_in (run_state r o events) w).counted cell
     residue_read cell z is = seen_as (λ y s. z ≡ residue r (updates_by (terms_within r y.limits) w) (worker_in s w).sent (worker_in s w).counted cell)
         (λ events h. is (terms_within r v.limits) w (worker_in (run_state r v events) w) refl (h.each w d at).keeps)
 
-    pub refused_read : (k : ℕ) (b : Bool) → b ≡ get_or d.refused k false → (events : List Event) → IsCoreAfter stands r o events → b ≡ is_refused k (worker_in (run_state r o events) w).refused
-    refused_read k b is = seen_as (λ _ s. b ≡ is_refused k (worker_in s w).refused) (λ events h. is ∙ (h.each w d at).marks k)
+    pub refused_read : (n : ℕ) (b : Bool) → ((t : Terms) (k : ℕ) (x : Worker) → t.rules ≡ r → Keeps stands t k d x → b ≡ is_refused n x.refused)
+        → (events : List Event) → IsCoreAfter stands r o events → b ≡ is_refused n (worker_in (run_state r o events) w).refused
+    refused_read n b is = seen_as (λ _ s. b ≡ is_refused n (worker_in s w).refused)
+        (λ events h. is (terms_within r v.limits) w (worker_in (run_state r v events) w) refl (h.each w d at).keeps)
 
 module _ {K H : Type 0} (stands : H → ℤ → ℤ → Type 0) (r : Rules) (v o : Core K H) (same : v ≡ o) (s : State) (h : IsCoreAt stands r v s) where
   -- the core is at the next state, and its caller sees the step
@@ -104,20 +106,20 @@ module _ {K H : Type 0} (stands : H → ℤ → ℤ → Type 0) (r : Rules) (v o
   pub there : (w : ℕ) → w < workers_of o → w < length v.workers
   there w below = (let own : w < workers_of v = subst (λ (z : Core K H). w < workers_of z) (sym same) below in omega (arith, own, h.fit.workers))
 
-  pub worker_at : (w : ℕ) (d : LagWorker K H) → w < workers_of o → d ≡ get_or v.workers w d → slice_get v.workers w ≡ Some d
+  pub worker_at : (w : ℕ) (d : CounterView H) → w < workers_of o → d ≡ get_or v.workers w d → slice_get v.workers w ≡ Some d
   worker_at w d below is = slice_get_read v.workers (length v.workers) w d refl (there w below) is
 
-  module _ (w : ℕ) (d : LagWorker K H) (below : w < workers_of o) (is : d ≡ get_or v.workers w d) where
+  module _ (w : ℕ) (d : CounterView H) (below : w < workers_of o) (is : d ≡ get_or v.workers w d) where
     inside : w < workers_of v
     inside = omega (arith, there w below, h.fit.workers)
 
-    pub lane_cleared : d.counter.taken ≡ 0
+    pub lane_cleared : d.taken ≡ 0
     lane_cleared = (h.each w d (worker_at w d below is)).ready.cleared
 
     pub update_asks : (us : List Entry) → updates_by (terms_within r v.limits) w ≡ us → CanTakeUp r us d
     update_asks us own = can_take_up stands r v s h w d inside (worker_at w d below is) us own
 
-    module _ (e : LagWorker K H) (same_cells : length e.counter.sketch.held ≡ length d.counter.sketch.held) where
+    module _ (e : CounterView H) (same_cells : length e.sketch.held ≡ length d.sketch.held) where
       pub update_done : (us : List Entry) → updates_by (terms_within r v.limits) w ≡ us → (reply : Reply)
           → ((l : Limits) (k : ℕ) (x : Worker) → updates_by (terms_within r l) k ≡ us → IsWorkerAt stands (terms_within r l) k d x
           → IsWorkerAt stands (terms_within r l) k e (count_step (terms_within r l) k x).0 × (reply ≡ (count_step (terms_within r l) k x).1))
@@ -170,16 +172,16 @@ module _ {K H : Type 0} (stands : H → ℤ → ℤ → Type 0) (r : Rules) (v o
   pub seen_cell : (w : ℕ) → w < workers_of o → (q : ℕ) → q < length o.seen → (front : Listed ℕ) → front ≡ get_or v.seen q front → w < length front.items
   seen_cell w below q inside front is = omega (arith, there w below, h.fit.workers, h.fit.fronts, seen_long stands r v s h q front (seen_at q inside front is))
 
-  pub residue_there : v.shape ≡ shape_of v → (w : ℕ) (d : LagWorker K H) → slice_get v.workers w ≡ Some d → (cell : ℕ) → cell < size_of o.shape → cell < length d.counter.sketch.held
+  pub residue_there : v.shape ≡ shape_of v → (w : ℕ) (d : CounterView H) → slice_get v.workers w ≡ Some d → (cell : ℕ) → cell < size_of o.shape → cell < length d.sketch.held
   residue_there own w d at cell below =
-      let size : size_of v.shape ≡ length d.counter.sketch.held = ap size_of own ∙ sym (h.fit.cells w d at) in
+      let size : size_of v.shape ≡ length d.sketch.held = ap size_of own ∙ sym (h.fit.cells w d at) in
       let inside : cell < size_of v.shape = subst (λ (y : Core K H). cell < size_of y.shape) (sym same) below in
       omega (arith, inside, size)
 
-  pub mark_there : (w : ℕ) (d : LagWorker K H) → slice_get v.workers w ≡ Some d → (k : ℕ) → k < length (updates_by (terms_within r o.limits) w) → k < length d.refused
-  mark_there w d at k below =
+  pub update_there : (w : ℕ) (d : CounterView H) → slice_get v.workers w ≡ Some d → (k : ℕ) → k < length (updates_by (terms_within r o.limits) w) → k < d.sketch.room
+  update_there w d at k below =
       let inside : k < length (updates_by (terms_within r v.limits) w) = subst (λ (y : Core K H). k < length (updates_by (terms_within r y.limits) w)) (sym same) below in
-      omega (arith, inside, (h.each w d at).ready.marks)
+      omega (arith, inside, (h.each w d at).ready.updates_room)
 
   pub live_there : (place : ℕ) → place < o.shown.live → place < length v.fold.heavy.keys
   live_there place below =

@@ -16,7 +16,7 @@ use Rattle.push_history.specs.Updates.{HoldValues}
 use Rattle.push_history.specs.Whole.{whole}
 use Rattle.push_history.proofs.Conserved.{conserved}
 use Rattle.push_history.proofs.MoreMessages.{front_at}
-use Rattle.lag_core.specs.declared.worker.LagWorker.{LagWorker}
+use Rattle.push_rule.specs.Counters.{CounterView}
 use Rattle.lag_core.specs.Workers.{IsWorkerAt, terms_within}
 use Rattle.lag_core.specs.Lags.{Core, IsCoreAt, shown_messages, workers_of}
 use Rattle.lag_core.specs.Laws.{Conserves, IsLawfulAt, IsLawfulCore, folded_front, lane_of, shown_front, told_folded, told_shown}
@@ -55,7 +55,7 @@ module _ {K H : Type 0} (stands : H → ℤ → ℤ → Type 0) (r : Rules) (v :
     | inr past ↦ subst (λ (us : List Entry). HoldValues r us) (sym (get_or_past v.limits.updates w [] past)) (All-nil (λ (u : Entry). r.is_value u.value ≡ true))
   ]
 
-  module _ (w : ℕ) (d : LagWorker K H) (at : slice_get v.workers w ≡ Some d) where
+  module _ (w : ℕ) (d : CounterView H) (at : slice_get v.workers w ≡ Some d) where
     abbrev x : Worker
     x = worker_in s w
 
@@ -68,7 +68,7 @@ module _ {K H : Type 0} (stands : H → ℤ → ℤ → Type 0) (r : Rules) (v :
     below : w < workers_of v
     below = omega (arith, slice_get_within v.workers w d at, h.fit.workers)
 
-    count : d.counter.sketch.counted ≡ x.counted
+    count : d.sketch.counted ≡ x.counted
     count = counted_is stands t w d x its
 
     folded_is : folded_front v w ≡ x.taken
@@ -77,8 +77,8 @@ module _ {K H : Type 0} (stands : H → ℤ → ℤ → Type 0) (r : Rules) (v :
     lane_is : lane_of d ≡ tail
     lane_is =
         let place : x.taken ≡ length its.keeps.cleared = omega (arith, its.keeps.taken, its.ready.cleared) in
-        ap (λ (n : ℕ). drop n d.counter.queue) its.ready.cleared
-        ∙ sym (ap (drop x.taken) its.keeps.queue ∙ drop_at its.keeps.cleared d.counter.queue x.taken (sym place))
+        ap (λ (n : ℕ). drop n d.queue) its.ready.cleared
+        ∙ sym (ap (drop x.taken) its.keeps.queue ∙ drop_at its.keeps.cleared d.queue x.taken (sym place))
 
     lawful_worker : IsLawfulAt r v s w d
     lawful_worker = record {
@@ -100,8 +100,8 @@ module _ {K H : Type 0} (stands : H → ℤ → ℤ → Type 0) (r : Rules) (v :
         ap (λ (l : List Push). take k (drop (shown_front v w) l)) sent_is
         ∙ ap (take k) (drop_at (first w) (rest w ++ tail) (shown_front v w) (sym (shown_is w below))) ∙ take_at (rest w) tail k long
 
-    conserved_worker : AreLaws r → (cell : ℕ) → whole r (updates_by t w) d.counter.sketch.counted cell
-        ≡ r.join (r.join (r.join (told_shown r v x.sent w cell) (told_folded r v x.sent w cell)) (told_of r cell (lane_of d))) (residue r (updates_by t w) x.sent d.counter.sketch.counted cell)
+    conserved_worker : AreLaws r → (cell : ℕ) → whole r (updates_by t w) d.sketch.counted cell
+        ≡ r.join (r.join (r.join (told_shown r v x.sent w cell) (told_folded r v x.sent w cell)) (told_of r cell (lane_of d))) (residue r (updates_by t w) x.sent d.sketch.counted cell)
     conserved_worker laws cell =
         ap (λ (n : ℕ). whole r (updates_by t w) n cell) count
         ∙ conserved t laws own_values s h.lawful w cell below

@@ -25,12 +25,12 @@ use Rattle.push_history.specs.Told.{told_of}
 use Rattle.push_history.proofs.MoreMessages.{front_len}
 use Rattle.push_history.proofs.Runs.{same_worker}
 use Rattle.std.proofs.lemmas.List.FromFn.{length-map-range_with_len}
+use Rattle.push_rule.specs.Counters.{CounterView}
 use Rattle.live_state.specs.declared.layout.Layout.{Layout}
 use Rattle.live_state.specs.Fold.{Fit, StateView, absorbed, layout_of}
 use Rattle.live_state.specs.Shows.{Shows}
 use Rattle.live_state.proofs.Layouts.{absorbed_layout}
 use Rattle.lag_core.specs.declared.shown.ShownState.{ShownState}
-use Rattle.lag_core.specs.declared.worker.LagWorker.{LagWorker}
 use Rattle.lag_core.specs.Workers.{CanTakeUp, IsReadyToCount, IsWorkerAt, terms_within}
 use Rattle.lag_core.specs.Lags.{Core, IsCoreAt, IsFitForRun, IsShownOf, Steps, shape_of, shown_messages, workers_of}
 use Rattle.lag_core.proofs.Counting.{queue_few, sent_counted}
@@ -96,7 +96,7 @@ module _ {K H : Type 0} (stands : H → ℤ → ℤ → Type 0) (r : Rules) (v :
   seen_shown s h q below = h.lawful.seen q 0 (omega (arith, below, h.readers))
 
   -- a worker can take up its updates
-  pub can_take_up : (s : State) → IsCoreAt stands r v s → (w : ℕ) (d : LagWorker K H) → w < workers_of v → slice_get v.workers w ≡ Some d
+  pub can_take_up : (s : State) → IsCoreAt stands r v s → (w : ℕ) (d : CounterView H) → w < workers_of v → slice_get v.workers w ≡ Some d
       → (us : List Entry) → updates_by (terms_within r v.limits) w ≡ us → CanTakeUp r us d
   can_take_up s h w d below at us is =
       let t = terms_within r v.limits in
@@ -109,15 +109,15 @@ module _ {K H : Type 0} (stands : H → ℤ → ℤ → Type 0) (r : Rules) (v :
         values = λ k e lt. (fit k e lt).1;
       }
 
-  module _ (w : ℕ) (d e : LagWorker K H) (below : w < workers_of v) (at : slice_get v.workers w ≡ Some d) (same_cells : length e.counter.sketch.held ≡ length d.counter.sketch.held) where
+  module _ (w : ℕ) (d e : CounterView H) (below : w < workers_of v) (at : slice_get v.workers w ≡ Some d) (same_cells : length e.sketch.held ≡ length d.sketch.held) where
     -- the workers with one in place of another
     each_after : (s : State) → IsCoreAt stands r v s → (y : Worker) → IsWorkerAt stands (terms_within r v.limits) w e y
-        → (k : ℕ) (a : LagWorker K H) → slice_get (set v.workers w e) k ≡ Some a → IsWorkerAt stands (terms_within r v.limits) k a (get_or (set s.workers w y) k fresh_worker)
+        → (k : ℕ) (a : CounterView H) → slice_get (set v.workers w e) k ≡ Some a → IsWorkerAt stands (terms_within r v.limits) k a (get_or (set s.workers w y) k fresh_worker)
     each_after s h y now k a at_a = elim (slot_set v.workers w k e a at_a) [
       | inl same ↦
           let itself : get_or (set s.workers w y) w fresh_worker ≡ y = get_or-set_same s.workers w y fresh_worker (omega (arith, below, h.lawful.workers)) in
           subst (λ (j : ℕ). IsWorkerAt stands (terms_within r v.limits) j a (get_or (set s.workers w y) j fresh_worker)) same.0
-          (subst (λ (z : Worker). IsWorkerAt stands (terms_within r v.limits) w a z) (sym itself) (subst (λ (z : LagWorker K H). IsWorkerAt stands (terms_within r v.limits) w z y) same.1 now))
+          (subst (λ (z : Worker). IsWorkerAt stands (terms_within r v.limits) w a z) (sym itself) (subst (λ (z : CounterView H). IsWorkerAt stands (terms_within r v.limits) w z y) same.1 now))
       | inr other ↦ subst (λ (z : Worker). IsWorkerAt stands (terms_within r v.limits) k a z) (sym (get_or-set_other s.workers w k y fresh_worker (λ i. other.0 (sym i)))) (h.each k a other.1)
     ]
 
@@ -128,7 +128,7 @@ module _ {K H : Type 0} (stands : H → ℤ → ℤ → Type 0) (r : Rules) (v :
       few_updates = fit.few_updates;
       updates = subst (λ (l : Layout). (k : ℕ) → k < workers_of v → All (λ u. (u.cell < size_of l.shape) × (r.is_value u.value ≡ true)) (updates_by (terms_within r v.limits) k)) (sym same) fit.updates;
       cells = λ k a at_a. elim (slot_set v.workers w k e a at_a) [
-        | inl here ↦ ap (λ (z : LagWorker K H). length z.counter.sketch.held) (sym here.1) ∙ same_cells ∙ fit.cells w d at ∙ ap (λ (l : Layout). size_of l.shape) (sym same)
+        | inl here ↦ ap (λ (z : CounterView H). length z.sketch.held) (sym here.1) ∙ same_cells ∙ fit.cells w d at ∙ ap (λ (l : Layout). size_of l.shape) (sym same)
         | inr there ↦ fit.cells k a there.1 ∙ ap (λ (l : Layout). size_of l.shape) (sym same)
       ];
       fronts = ap (λ (l : Layout). l.workers) same ∙ fit.fronts;

@@ -14,12 +14,12 @@ use Rattle.push_history.specs.LagRun.{Worker, fresh_worker, lag_run, start}
 use Rattle.push_history.specs.Updates.{HoldValues}
 use Rattle.push_history.proofs.MoreMessages.{front_none}
 use Rattle.push_history.proofs.RunLaws.{run_lawful}
+use Rattle.push_rule.specs.Counters.{CounterView}
 use Rattle.live_state.specs.declared.layout.Layout.{Layout}
 use Rattle.live_state.specs.Fold.{fits, fresh_state, layout_of, zero_cells}
 use Rattle.live_state.proofs.Layouts.{fresh_layout}
 use Rattle.live_state.proofs.Live.{shows_all}
 use Rattle.lag_core.specs.declared.shown.ShownState.{ShownState}
-use Rattle.lag_core.specs.declared.worker.LagWorker.{LagWorker}
 use Rattle.lag_core.specs.Workers.{IsFreshWorker, IsWorkerAt, terms_within}
 use Rattle.lag_core.specs.Lags.{Core, IsCoreAt, IsShownOf, shape_of, workers_of}
 
@@ -49,7 +49,7 @@ rows_fit r size rows few cells values w below =
 
 module _ {K H : Type 0} (stands : H → ℤ → ℤ → Type 0) (r : Rules) (v : Core K H) (l : Layout) where
   pub core_fresh : v.fold ≡ fresh_state l → l.workers ≡ workers_of v → length v.workers ≡ workers_of v → workers_of v < 2 ^ 32
-      → ((w : ℕ) (d : LagWorker K H) → slice_get v.workers w ≡ Some d → IsFreshWorker stands (terms_within r v.limits) (size_of l.shape) w d)
+      → ((w : ℕ) (d : CounterView H) → slice_get v.workers w ≡ Some d → IsFreshWorker stands (terms_within r v.limits) (size_of l.shape) w d)
       → ((w : ℕ) → w < workers_of v → (length (get_or v.limits.updates w []) < 2 ^ 32) × All (λ u. u.cell < size_of l.shape) (get_or v.limits.updates w []) × HoldValues r (get_or v.limits.updates w []))
       → IsShownOf r l [] v.shown → All (λ front. front.items ≡ replicate (workers_of v) 0) v.seen
       → IsCoreAt stands r v (lag_run (terms_within r v.limits) (length v.seen) [])

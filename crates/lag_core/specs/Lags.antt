@@ -13,10 +13,10 @@ use Rattle.push_history.specs.LagRun.{State, lag_step, lag_run, updates_by, work
 use Rattle.push_history.specs.LawfulRun.{IsLawfulState}
 use Rattle.push_history.specs.LiveHeavy.{live_keys, missed_keys}
 use Rattle.push_history.specs.Shown.{told_cells}
+use Rattle.push_rule.specs.Counters.{CounterView}
 use Rattle.live_state.specs.declared.layout.Layout.{Layout}
 use Rattle.live_state.specs.Fold.{StateView, IsStateAfter, layout_of}
 use Rattle.lag_core.specs.declared.shown.ShownState.{ShownState}
-use Rattle.lag_core.specs.declared.worker.LagWorker.{LagWorker}
 use Rattle.lag_core.specs.Workers.{IsWorkerAt, Limits, terms_within}
 
 -- the shape of its tables, and what the run is of besides; its workers; the state that messages are folded into; what of
@@ -24,7 +24,7 @@ use Rattle.lag_core.specs.Workers.{IsWorkerAt, Limits, terms_within}
 pub record Core (K Held : Type 0) : Type 0 where
   pub shape : Shape
   pub limits : Limits
-  pub workers : List (LagWorker K Held)
+  pub workers : List (CounterView Held)
   pub fold : StateView
   pub shown : ShownState K Held
   pub seen : List (Listed ℕ)
@@ -73,14 +73,14 @@ module _ {K Held : Type 0} where
     pub few_updates : (w : ℕ) → w < workers_of v → length (updates_by (terms_within r v.limits) w) < 2 ^ 32
     pub updates : (w : ℕ) → w < workers_of v
         → All (λ u. (u.cell < size_of (shape_of v)) × (r.is_value u.value ≡ true)) (updates_by (terms_within r v.limits) w)
-    pub cells : (w : ℕ) (d : LagWorker K Held) → slice_get v.workers w ≡ Some d → length d.counter.sketch.held ≡ size_of (shape_of v)
+    pub cells : (w : ℕ) (d : CounterView Held) → slice_get v.workers w ≡ Some d → length d.sketch.held ≡ size_of (shape_of v)
     pub fronts : length v.fold.front ≡ workers_of v
 
   -- the core is that of this state of a run
   pub record IsCoreAt (stands : Held → ℤ → ℤ → Type 0) (r : Rules) (v : Core K Held) (s : State) : Type 0 where
     pub fit : IsFitForRun r v
     pub lawful : IsLawfulState (terms_within r v.limits) s
-    pub each : (w : ℕ) (d : LagWorker K Held) → slice_get v.workers w ≡ Some d
+    pub each : (w : ℕ) (d : CounterView Held) → slice_get v.workers w ≡ Some d
         → IsWorkerAt stands (terms_within r v.limits) w d (worker_in s w)
     pub fold : IsStateAfter r v.fold s.folded
     pub shown : IsShownOf r (layout_of v.fold) (shown_messages s) v.shown

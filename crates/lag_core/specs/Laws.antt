@@ -8,9 +8,13 @@ use Rattle.push_history.specs.Pushes.{LawfulPushes}
 use Rattle.push_history.specs.Residue.{residue}
 use Rattle.push_history.specs.Told.{told_of}
 use Rattle.push_history.specs.Whole.{whole}
-use Rattle.lag_core.specs.declared.worker.LagWorker.{LagWorker}
+use Rattle.push_rule.specs.Counters.{CounterView}
 use Rattle.lag_core.specs.Workers.{terms_within}
 use Rattle.lag_core.specs.Lags.{Core, workers_of}
+
+-- the messages in the worker's lane
+abbrev pub lane_of : {Held : Type 0} → CounterView Held → List Push
+lane_of d = drop d.taken d.queue
 
 module _ {K Held : Type 0} where
   -- how many messages of the worker the core has folded
@@ -21,21 +25,17 @@ module _ {K Held : Type 0} where
   abbrev pub shown_front : Core K Held → ℕ → ℕ
   shown_front v w = slice_index_or v.shown.front.items w 0
 
-  -- the messages in the worker's lane
-  abbrev pub lane_of : LagWorker K Held → List Push
-  lane_of d = drop d.counter.taken d.counter.queue
-
   -- the pushes of worker w are lawful up to the updates that its sketch counted; of its messages the first are folded,
   -- as many as the core's front says, and the others wait in its lane
-  pub record IsLawfulAt (r : Rules) (v : Core K Held) (s : State) (w : ℕ) (d : LagWorker K Held) : Type 0 where
+  pub record IsLawfulAt (r : Rules) (v : Core K Held) (s : State) (w : ℕ) (d : CounterView Held) : Type 0 where
     pub pushes : LawfulPushes r w v.limits.threshold v.limits.capacity v.limits.full
-        (take d.counter.sketch.counted (updates_by (terms_within r v.limits) w)) (worker_in s w).sent (worker_in s w).refused
+        (take d.sketch.counted (updates_by (terms_within r v.limits) w)) (worker_in s w).sent (worker_in s w).refused
     pub folded : messages_of w s.folded ≡ take (folded_front v w) (worker_in s w).sent
     pub queued : lane_of d ≡ drop (folded_front v w) (worker_in s w).sent
 
   -- so is it with each worker, and no more is shown than is folded
   pub record IsLawfulCore (r : Rules) (v : Core K Held) (s : State) : Type 0 where
-    pub workers : (w : ℕ) (d : LagWorker K Held) → slice_get v.workers w ≡ Some d → IsLawfulAt r v s w d
+    pub workers : (w : ℕ) (d : CounterView Held) → slice_get v.workers w ≡ Some d → IsLawfulAt r v s w d
     pub shown : (w : ℕ) → w < workers_of v → shown_front v w ≤ folded_front v w
 
   -- what those of a worker's messages that are shown tell of a cell
@@ -48,9 +48,9 @@ module _ {K Held : Type 0} where
 
   -- what the sketch of a worker counted of a cell is the join of what is shown of it, folded and not shown, queued, and not told
   pub record Conserves (r : Rules) (v : Core K Held) (s : State) : Type 0 where
-    pub whole_is : (w cell : ℕ) (d : LagWorker K Held) → slice_get v.workers w ≡ Some d →
+    pub whole_is : (w cell : ℕ) (d : CounterView Held) → slice_get v.workers w ≡ Some d →
         let updates = updates_by (terms_within r v.limits) w in
         let sent = (worker_in s w).sent in
-        whole r updates d.counter.sketch.counted cell
+        whole r updates d.sketch.counted cell
         ≡ r.join (r.join (r.join (told_shown r v sent w cell) (told_folded r v sent w cell)) (told_of r cell (lane_of d)))
-        (residue r updates sent d.counter.sketch.counted cell)
+        (residue r updates sent d.sketch.counted cell)

@@ -5,12 +5,13 @@ ghost use Rattle.push_history.specs.declared.event.Event.{Event};
 ghost use Rattle.lag_core.specs.Workers.{IsFreshWorker, terms_within};
 
 use crate::shown::{ShownState, nothing_shown, show};
-use crate::worker::{LagWorker, UpdateRows, new_worker, take_oldest, take_up};
+use crate::worker::{UpdateRows, take_oldest, take_up};
 use flow_base::NoMemory;
 use hash_rows::{Counts, Full, Kind, Shape};
 use listed::Listed;
 use live_state::{State, copy_counts_into};
 use push_history::{Event, Reply};
+use push_rule::{Counter, Private};
 use std::alloc::Global;
 use std::marker::Model;
 
@@ -22,7 +23,7 @@ pub struct Lag<K: Kind> {
     pub(crate) capacity: u32,
     pub(crate) full: Full,
     pub(crate) updates: UpdateRows,
-    pub(crate) workers: Vec<LagWorker<K>>,
+    pub(crate) workers: Vec<Counter<K>>,
     pub(crate) fold: State<K>,
     pub(crate) shown: ShownState<K>,
     pub(crate) seen: Vec<Counts>,
@@ -184,7 +185,7 @@ fn new_workers<K: Kind>(
     capacity: u32,
     full: Full,
     updates: &UpdateRows,
-) -> Result<Vec<LagWorker<K>>, NoMemory>
+) -> Result<Vec<Counter<K>>, NoMemory>
     requires shape { IsShape shape.now }
     requires threshold { 0 < threshold }
     ensures count { IfOk result (λ workers. length workers.items ≡ length updates.now.items) }
@@ -200,15 +201,10 @@ fn new_workers<K: Kind>(
     let cells = shape.rows * shape.columns;
     let mut workers = Vec::new(alloc);
     for number in 0..updates.len() {
-        let worker = new_worker(
-            alloc,
-            number,
-            cells,
-            threshold,
-            capacity,
-            full,
-            updates.get(number).len(),
-        )?;
+        let count = updates.get(number).len();
+        let sketch = Private::new(alloc, cells, threshold, count)?;
+        let room = capacity.saturating_add(1).min(count);
+        let worker = Counter::new(alloc, number, capacity, full, sketch, room)?;
         push_item(&mut workers, worker)?;
     }
     Ok(workers)

@@ -76,7 +76,7 @@ impl<K: Kind> Lag<K> {
             → let x = worker_in (run_state K.rules self.now events) worker in
             result ≡ length x.sent - x.taken }
     {
-        self.workers[worker as usize].counter.held()
+        self.workers[worker as usize].held()
     }
 
     /// What the worker counted of the cell and did not tell.
@@ -87,7 +87,7 @@ impl<K: Kind> Lag<K> {
             → let x = worker_in (run_state K.rules self.now events) worker in
             result ≡ residue K.rules (updates_by (terms_within K.rules self.now.limits) worker) x.sent x.counted cell }
     {
-        self.workers[worker as usize].counter.residue(cell)
+        self.workers[worker as usize].residue(cell)
     }
 
     /// Whether the push of this update of the worker met a full lane and was left.
@@ -98,7 +98,7 @@ impl<K: Kind> Lag<K> {
             → let x = worker_in (run_state K.rules self.now events) worker in
             result ≡ is_refused update x.refused }
     {
-        self.workers[worker as usize].refused.get(update)
+        self.workers[worker as usize].refused_at(update)
     }
 
     /// How many heavy keys are shown.
