@@ -1,4 +1,4 @@
-ghost use Rattle.std.specs.Prelude.{◌≡◌, ◌<◌, ◌≤◌, ◌+◌, ℕ, ℤ, true, None, Some, IsSome, IfOk, count_by, length, get_or, map, is_none, slice_get, slice_set, replicate, nat_eq};
+ghost use Rattle.std.specs.Prelude.{◌≡◌, ◌<◌, ◌≤◌, ◌+◌, ℕ, ℤ, true, None, Some, IsSome, IfOk, count_by, length, get_or, map, is_none, is_some, slice_get, slice_set, replicate, nat_eq};
 ghost use Rattle.indexmap.specs.IndexMap.{IsUnique, get, spare};
 ghost use Rattle.held_cells.specs.Held.{Forms, IsByteOf, IsHeldBeside, byte_of, kept_at, mark};
 
@@ -178,6 +178,20 @@ impl<K: Kind> HeldCells<K> {
             }
             None => unreachable!(),
         }
+    }
+
+    /// Whether a value is open.
+    pub fn is_due(&self) -> bool
+        ensures { result ≡ is_some self.now.due }
+    {
+        self.due.is_some()
+    }
+
+    /// How many changes are left.
+    pub fn left(&self) -> u32
+        ensures { result ≡ self.now.left }
+    {
+        self.left
     }
 
     /// One byte a cell: the small form of what is held, or -128 where there is none.

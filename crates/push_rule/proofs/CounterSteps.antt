@@ -262,17 +262,29 @@ module _ {H : Type 0} (stands : H → ℤ → ℤ → Type 0) (t : Terms) (w : �
       → Keeps stands t w d (count_step t w x).0 × (Waits ≡ (count_step t w x).1)
   after_waits far full wait = rw (step_full far full ∙ ap (λ f. meets_full f x) wait) (keeps, refl)
 
--- where no push waits, a due one is left
-pub leave_of : (full : Full) (threshold distance : ℕ) → threshold ≤ distance → (is_wait full && nat_le threshold distance) ≡ false → full ≡ Leave
-leave_of Leave threshold distance far quiet = refl
-leave_of Wait threshold distance far quiet =
-    let yes : nat_le threshold distance ≡ true = grind (arith, far) in
-    let h : (true && nat_le threshold distance) ≡ false = quiet in
-    let e : (true && true) ≡ false = rw yes at h in absurd (cc)
+-- a push waits where it is due, once pushes wait and the lane is full
+pub waits_where : (waits filled due : Bool) → waits ≡ true → filled ≡ true → due ≡ (waits && (filled && due))
+waits_where waits filled due are full = rw (are, full) refl
 
-pub wait_of : (full : Full) (threshold distance : ℕ) → (is_wait full && nat_le threshold distance) ≡ true → (full ≡ Wait) × (threshold ≤ distance)
-wait_of Leave threshold distance h = absurd (let e : false ≡ true = h in cc)
-wait_of Wait threshold distance h = (refl, (let e : nat_le threshold distance ≡ true = h in grind arith))
+-- where no push waits, a due one that meets a full lane is left
+pub leave_of : (full : Full) (lane held threshold distance : ℕ) → lane ≤ held → threshold ≤ distance
+    → (is_wait full && (nat_le lane held && nat_le threshold distance)) ≡ false → full ≡ Leave
+leave_of Leave lane held threshold distance filled far quiet = refl
+leave_of Wait lane held threshold distance filled far quiet =
+    let yes : nat_le threshold distance ≡ true = grind (arith, far) in
+    let none : nat_le lane held ≡ true = grind (arith, filled) in
+    let h : (true && (nat_le lane held && nat_le threshold distance)) ≡ false = quiet in
+    let e : (true && (true && true)) ≡ false = rw (none, yes) at h in absurd (cc)
+
+pub wait_of : (full : Full) (lane held threshold distance : ℕ) → (is_wait full && (nat_le lane held && nat_le threshold distance)) ≡ true
+    → (full ≡ Wait) × ((lane ≤ held) × (threshold ≤ distance))
+wait_of Leave lane held threshold distance h = absurd (let e : false ≡ true = h in cc)
+wait_of Wait lane held threshold distance h = by (nat_le lane held) (nat_le threshold distance) refl refl h
+  where
+    by : (a b : Bool) → nat_le lane held ≡ a → nat_le threshold distance ≡ b → (a && b) ≡ true → (Wait ≡ Wait) × ((lane ≤ held) × (threshold ≤ distance))
+    by true true filled far both = (refl, (grind arith, grind arith))
+    by true false filled far both = absurd (cc)
+    by false b filled far both = absurd (cc)
 
 -- what is left behind the first so many
 pub rotated : (q : List Push) (n : ℕ) → n ≤ length q → take (length q - n) (drop n q ++ take n q) ≡ drop n q

@@ -13,7 +13,7 @@ use Rattle.push_history.specs.Residue.{residue}
 use Rattle.push_history.specs.Pushes.{ArePushes, is_refused}
 use Rattle.push_history.proofs.Joins.{whole_push, told_push}
 use Rattle.push_history.proofs.Growing.{pushes_refused, pushes_sent, numbers_within, told_all, whole_all, refused_other, refused_same}
-use Rattle.push_rule.specs.Stands.{PrivateView, StandsAt, StandsFor, Waits}
+use Rattle.push_rule.specs.Stands.{counted_of, PrivateView, StandsAt, StandsFor, Waits}
 
 -- what was put at the place
 put_same : {X : Type 0} (xs : List X) (i : ℕ) (y x : X) → slice_get (slice_set xs i y) i ≡ Some x → x ≡ y
@@ -210,3 +210,17 @@ pub sent_at : {H : Type 0} (stands : H → ℤ → ℤ → Type 0) (r : Rules) (
 sent_at stands r new worker packet update key U S F due cell is stood =
     subst (λ (o : Option ℕ). MatchOption o (StandsFor stands r new U S F)
     (λ k. StandsFor stands r new U (S ++ record { worker = worker; packet = packet; update = update; key = key; cell = k; amount = r.gap (told_of r k S) (whole_of r k U) } ∷ []) F)) (sym is) stood
+
+-- an update more is counted: its cell is due, or its change is made
+pub counted_due : (room left left_now : ℕ) (due due_now : Option ℕ) (cell : ℕ) → due ≡ None → due_now ≡ Some cell → left_now ≡ left
+    → counted_of room left_now due_now ≡ counted_of room left due + 1
+counted_due room left left_now due due_now cell idle is same = rw (idle, is, same) refl
+
+pub counted_set : (room left left_now : ℕ) (due due_now : Option ℕ) → due ≡ None → due_now ≡ None → left_now + 1 ≡ left → left ≤ room
+    → counted_of room left_now due_now ≡ counted_of room left due + 1
+counted_set room left left_now due due_now idle is one within = rw (idle, is) (omega (arith, one, within))
+
+-- and one that was due is counted already
+pub counted_settled : (room left left_now : ℕ) (due due_now : Option ℕ) (cell : ℕ) → due ≡ Some cell → due_now ≡ None → left_now + 1 ≡ left → left ≤ room
+    → counted_of room left_now due_now ≡ counted_of room left due
+counted_settled room left left_now due due_now cell was is one within = rw (was, is) (omega (arith, one, within))

@@ -1,5 +1,5 @@
 -- What a private sketch stands for.
-use Rattle.std.specs.Prelude.{◌≡◌, ◌<◌, ◌≤◌, ℕ, ℤ, List, [], ◌∷◌, ◌++◌, length, slice_get, slice_index_or, Bool, false, Option, Some, MatchOption, refl}
+use Rattle.std.specs.Prelude.{◌≡◌, ◌<◌, ◌≤◌, ℕ, ℤ, List, [], ◌∷◌, ◌++◌, ◌+◌, ◌-◌, length, slice_get, slice_index_or, Bool, false, Option, Some, None, MatchOption, refl}
 use Rattle.std.specs.Coded.{Coded, code_by, coded×, coded_ℕ, coded_bool, coded_list, coded_option}
 use Rattle.hash_rows.specs.declared.shape.Update.{Update}
 use Rattle.hash_rows.specs.declared.shape.Push.{Push}
@@ -17,6 +17,11 @@ pub record PrivateView (Held : Type 0) : Type 0 where
   pub counted : ℕ
   pub due : Option ℕ
   pub bits : List Bool
+
+-- how many updates were counted, by the changes of cells that are left: one that is due is counted, and no change yet
+abbrev pub counted_of : ℕ → ℕ → Option ℕ → ℕ
+counted_of room left None = room - left
+counted_of room left (Some _) = room - left + 1
 
 -- how it is stored
 abbrev pub private_code : {Held : Type 0} → Coded Held → Coded (PrivateView Held)

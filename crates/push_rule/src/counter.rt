@@ -189,67 +189,10 @@ impl<K: Kind> Counter<K> {
         ensures grows { Extends self.old.queue self.new.queue }
         ensures counted { self.new.sketch.counted ≡ (if is_waits result then self.old.sketch.counted else self.old.sketch.counted + 1) }
     {
-        if self.held() < self.lane {
-            return self.count_with_room(packet, key, cell, value);
-        }
-        self.count_at_full_lane(packet, key, cell, value)
-    }
-
-    // The same, where the lane has room.
-    #[inline(always)]
-    fn count_with_room(&mut self, packet: u32, key: &FlowKey, cell: u32, value: i64) -> Reply
-        requires lane { in_lane self.old < self.old.lane }
-        requires sketch { self.old.sketch.counted < self.old.sketch.room }
-        requires cell { cell < length self.old.sketch.held }
-        requires value { K.rules.is_value value ≡ true }
-        requires room { length self.old.queue < self.old.room }
-        ensures keeps { (t : Terms) (w : ℕ) (x : Worker) → t.rules ≡ K.rules → Keeps K.stands t w self.old x
-            → x.counted < length (updates_by t w) → update_at (updates_by t w) x.counted ≡ record { packet = packet; key = key.now; cell = cell; value = value }
-            → Keeps K.stands t w self.new (count_step t w x).0 × (result ≡ (count_step t w x).1) }
-        ensures same { KeepsSettings self.old self.new }
-        ensures queue { length self.new.queue ≤ length self.old.queue + 1 }
-        ensures lane { length self.new.queue ≤ max (length self.old.queue) (self.old.taken + self.old.lane) }
-        ensures grows { Extends self.old.queue self.new.queue }
-        ensures counted { self.new.sketch.counted ≡ (if is_waits result then self.old.sketch.counted else self.old.sketch.counted + 1) }
-    {
-        let number = self.sketch.counted();
-        match self.sketch.count(cell, value) {
-            None => Reply::Counted,
-            Some(amount) => {
-                self.sketch.sent();
-                self.queue.push_reserved(Push {
-                    worker: self.worker,
-                    packet,
-                    update: number,
-                    key: *key,
-                    cell,
-                    amount,
-                });
-                Reply::Pushed { amount }
-            }
-        }
-    }
-
-    // The same, where the lane is full.
-    #[inline(always)]
-    fn count_at_full_lane(&mut self, packet: u32, key: &FlowKey, cell: u32, value: i64) -> Reply
-        requires lane { self.old.lane ≤ in_lane self.old }
-        requires sketch { self.old.sketch.counted < self.old.sketch.room }
-        requires cell { cell < length self.old.sketch.held }
-        requires value { K.rules.is_value value ≡ true }
-        ensures keeps { (t : Terms) (w : ℕ) (x : Worker) → t.rules ≡ K.rules → Keeps K.stands t w self.old x
-            → x.counted < length (updates_by t w) → update_at (updates_by t w) x.counted ≡ record { packet = packet; key = key.now; cell = cell; value = value }
-            → Keeps K.stands t w self.new (count_step t w x).0 × (result ≡ (count_step t w x).1) }
-        ensures same { KeepsSettings self.old self.new }
-        ensures queue { length self.new.queue ≤ length self.old.queue + 1 }
-        ensures lane { length self.new.queue ≤ max (length self.old.queue) (self.old.taken + self.old.lane) }
-        ensures grows { Extends self.old.queue self.new.queue }
-        ensures counted { self.new.sketch.counted ≡ (if is_waits result then self.old.sketch.counted else self.old.sketch.counted + 1) }
-    {
         if self.waits_with(packet, key, cell, value) {
             return Reply::Waits;
         }
-        self.count_or_refuse(packet, key, cell, value)
+        self.count_and_tell(packet, key, cell, value)
     }
 
     // Whether the update makes a push due that has to wait.
@@ -260,36 +203,53 @@ impl<K: Kind> Counter<K> {
         requires value { K.rules.is_value value ≡ true }
         ensures { (t : Terms) (w : ℕ) (x : Worker) → t.rules ≡ K.rules → Keeps K.stands t w self.now x
             → x.counted < length (updates_by t w) → update_at (updates_by t w) x.counted ≡ record { packet = packet; key = key.now; cell = cell; value = value }
-            → result ≡ (is_wait self.now.full && nat_le t.threshold (distance_at t.rules (updates_by t w) x.sent x.counted)) }
+            → result ≡ (is_wait self.now.full && (nat_le self.now.lane (in_lane self.now)
+            && nat_le t.threshold (distance_at t.rules (updates_by t w) x.sent x.counted))) }
     {
         let (_packet, _key) = (packet, key);
         match self.full {
             Full::Leave => false,
-            Full::Wait => self.sketch.due_with(cell, value),
+            Full::Wait => self.lane <= self.held() && self.sketch.due_with(cell, value),
         }
     }
 
-    // Counts the update, and refuses a push that is due.
+    // Counts the update, which makes no push due that has to wait, and sends one that is due, or
+    // refuses it at a full lane.
     #[inline(always)]
-    fn count_or_refuse(&mut self, packet: u32, key: &FlowKey, cell: u32, value: i64) -> Reply
-        requires lane { self.old.lane ≤ in_lane self.old }
+    fn count_and_tell(&mut self, packet: u32, key: &FlowKey, cell: u32, value: i64) -> Reply
         requires sketch { self.old.sketch.counted < self.old.sketch.room }
         requires cell { cell < length self.old.sketch.held }
         requires value { K.rules.is_value value ≡ true }
+        requires room { length self.old.queue < self.old.room }
         ensures keeps { (t : Terms) (w : ℕ) (x : Worker) → t.rules ≡ K.rules → Keeps K.stands t w self.old x
             → x.counted < length (updates_by t w) → update_at (updates_by t w) x.counted ≡ record { packet = packet; key = key.now; cell = cell; value = value }
-            → (is_wait self.old.full && nat_le t.threshold (distance_at t.rules (updates_by t w) x.sent x.counted)) ≡ false
+            → (is_wait self.old.full && (nat_le self.old.lane (in_lane self.old)
+            && nat_le t.threshold (distance_at t.rules (updates_by t w) x.sent x.counted))) ≡ false
             → Keeps K.stands t w self.new (count_step t w x).0 × (result ≡ (count_step t w x).1) }
         ensures same { KeepsSettings self.old self.new }
-        ensures queue { self.new.queue ≡ self.old.queue }
+        ensures queue { length self.new.queue ≤ length self.old.queue + 1 }
+        ensures lane { length self.new.queue ≤ max (length self.old.queue) (self.old.taken + self.old.lane) }
+        ensures grows { Extends self.old.queue self.new.queue }
         ensures counted { self.new.sketch.counted ≡ (if is_waits result then self.old.sketch.counted else self.old.sketch.counted + 1) }
     {
-        let (_packet, _key) = (packet, key);
         match self.sketch.count(cell, value) {
             None => Reply::Counted,
-            Some(_) => {
-                self.sketch.refused();
-                Reply::Refused
+            Some(amount) => {
+                if self.queue.len() as u32 - self.taken >= self.lane {
+                    self.sketch.refused();
+                    return Reply::Refused;
+                }
+                let number = self.sketch.counted() - 1;
+                self.sketch.sent();
+                self.queue.push_reserved(Push {
+                    worker: self.worker,
+                    packet,
+                    update: number,
+                    key: *key,
+                    cell,
+                    amount,
+                });
+                Reply::Pushed { amount }
             }
         }
     }

@@ -20,13 +20,12 @@ pub struct Private<K: Kind> {
     cells: HeldCells<K>,
     threshold: u64,
     room: u32,
-    counted: u32,
     bits: Bits,
 }
 
 impl<K: Kind> Model for Private<K> {
-    ghost use Rattle.std.specs.Prelude.{◌≡◌, ◌<◌, ◌≤◌, ◌+◌, length, MatchOption};
-    ghost use Rattle.push_rule.specs.Stands.{PrivateView, private_code};
+    ghost use Rattle.std.specs.Prelude.{◌≡◌, ◌<◌, ◌≤◌, ⊤, length, MatchOption};
+    ghost use Rattle.push_rule.specs.Stands.{PrivateView, counted_of, private_code};
 
     ghost Value = { PrivateView K.Held };
 
@@ -36,14 +35,13 @@ impl<K: Kind> Model for Private<K> {
       held = p.cells.held;
       threshold = p.threshold;
       room = p.room;
-      counted = p.counted;
+      counted = counted_of p.room p.cells.left p.cells.due;
       due = p.cells.due;
       bits = p.bits;
     } };
 
-    ghost invariant = { λ p. (length p.bits ≡ p.room) × (p.counted ≤ p.room)
-        × MatchOption p.cells.due (p.room ≤ p.cells.left + p.counted) (λ cell. (cell < length p.cells.held) × (0 < p.counted)
-        × (p.room < p.cells.left + p.counted)) };
+    ghost invariant = { λ p. (length p.bits ≡ p.room) × (p.cells.left ≤ p.room)
+        × MatchOption p.cells.due ⊤ (λ cell. (cell < length p.cells.held) × (0 < p.cells.left)) };
 }
 
 impl<K: Kind> Private<K> {
@@ -69,7 +67,6 @@ impl<K: Kind> Private<K> {
             cells,
             threshold,
             room: updates,
-            counted: 0,
             bits,
         })
     }
@@ -94,7 +91,6 @@ impl<K: Kind> Private<K> {
         ensures cells { length self.new.held ≡ length self.old.held }
     {
         let held = K::counted(self.cells.look_up(cell), value);
-        self.counted += 1;
         let (distance, gap) = K::unsent(held);
         if distance >= self.threshold {
             self.cells.put_due(cell, held);
@@ -160,7 +156,7 @@ impl<K: Kind> Private<K> {
         ensures threshold { self.new.threshold ≡ self.old.threshold }
         ensures room { self.new.room ≡ self.old.room }
     {
-        self.bits.set(self.counted - 1);
+        self.bits.set(self.room - self.cells.left());
         self.cells.keep_due();
     }
 
@@ -201,14 +197,19 @@ impl<K: Kind> Private<K> {
     pub fn counted(&self) -> u32
         ensures { result ≡ self.now.counted }
     {
-        self.counted
+        let changed = self.room - self.cells.left();
+        if self.cells.is_due() {
+            changed + 1
+        } else {
+            changed
+        }
     }
 
     /// Whether there are updates left to count.
     pub fn has_left(&self) -> bool
         ensures { result ≡ nat_lt self.now.counted self.now.room }
     {
-        self.counted < self.room
+        self.counted() < self.room
     }
 
     /// Whether the push of this update was refused.
