@@ -1,5 +1,5 @@
 -- What the parts, the state and the looks after the last round come to.
-use Rattle.std.proofs.Common.{◌≡◌, ◌<◌, ◌≤◌, ◌^◌, ℕ, ℤ, pos, zero, suc, ◌+◌, ◌*◌, ◌==◌, min, List, [], ◌∷◌, length, get_or, Bool, true, false, if◌then◌else◌, All, slice_get, Some, refl, sym, ap, ap₂, ◌∙◌, subst, arith, true≢false}
+use Rattle.std.proofs.Common.{◌≡◌, ◌<◌, ◌≤◌, ◌^◌, ℕ, ℤ, pos, zero, suc, ◌+◌, ◌*◌, ◌==◌, min, List, [], ◌∷◌, length, get_or, Bool, true, false, if◌then◌else◌, All, slice_get, Some, refl, sym, ap, ap₂, ◌∙◌, subst, take, arith, true≢false}
 use Rattle.std.specs.Prelude.{fold, map, slice_index_or}
 use Rattle.std.specs.List.{list_any, range_with_len}
 use Rattle.std.proofs.lemmas.List.FromFn.{fill_by_all, get_or-map-range_with_len, length-map-range_with_len}
@@ -27,6 +27,8 @@ use Rattle.push_history.specs.Shown.{told_cells}
 use Rattle.push_history.specs.Told.{told_of}
 use Rattle.push_history.proofs.Joins.{told_value}
 use Rattle.push_rule.specs.Keeps.{Keeps}
+use Rattle.push_rule.specs.Residues.{HasJoined, IsWorkerFor}
+use Rattle.push_rule.proofs.CounterSteps.{sketch_stands}
 use Rattle.live_state.specs.Fold.{StateView, layout_in}
 use Rattle.live_state.specs.Shows.{Shows}
 use Rattle.live_state.proofs.Live.{shows_all}
@@ -41,7 +43,7 @@ use Rattle.octo_engine.specs.declared.worker.Part.{Part}
 use Rattle.octo_engine.specs.Answers.{AreLooksByReader, IsLookFor}
 use Rattle.octo_engine.specs.Looks.{AreAllLooks, looks_wanted}
 use Rattle.octo_engine.specs.Parts.{is_busy_part}
-use Rattle.octo_engine.specs.Residues.{HasJoined, HasRefused, IsOfSomeRun, residues_of}
+use Rattle.octo_engine.specs.Residues.{HasRefused, residue_by}
 use Rattle.octo_engine.specs.Rounds.{AreTerms, IsAtEnd}
 use Rattle.octo_engine.proofs.Places.{has_len}
 use Rattle.octo_engine.proofs.Rounding.{busy_is}
@@ -102,11 +104,17 @@ module _ {K H : Type 0} (stands : H → ℤ → ℤ → Type 0) (r : Rules) (t :
       let d = some_item parts w inside in
       sym (busy_is r stands t o packets terms n w (get_or parts w d) lt (end.workers.each w d lt)) ∙ none_at is_busy_part parts end.none w d inside)
 
-  pub kept : (parts : List (Part K H)) (state : StateView) → IsAtEnd stands r t o packets n parts state → (w : ℕ) (p : Part K H) → w < length parts → IsOfSomeRun r stands state.table.shape w (slice_index_or parts w p).counter
-  kept parts state end w p lt =
+  pub each_for : (parts : List (Part K H)) (state : StateView) → IsAtEnd stands r t o packets n parts state → (w : ℕ) (p : Part K H) → w < length parts
+      → IsWorkerFor stands r state.table.shape (slice_index_or parts w p).counter.sketch
+  each_for parts state end w p lt =
       let len = end.workers.len in
       let part = end.workers.each w p (omega (arith, lt, len)) in
-      record { t = t; x = own_rounds t o w n fresh_worker; rules = terms.runs.rules; keeps = part.keeps; cells = part.sound.fit.cells ∙ ap size_of (sym (shown parts state end).shape) }
+      let x = own_rounds t o w n fresh_worker in
+      record {
+        counted = record { updates = take x.counted (updates_by t w); messages = x.sent; refused = x.refused };
+        stands_for = sketch_stands stands t w (slice_index_or parts w p).counter x part.keeps r terms.runs.rules;
+        cells = part.sound.fit.cells ∙ ap size_of (sym (shown parts state end).shape);
+      }
 
   pub whole : (parts : List (Part K H)) (state : StateView) → IsAtEnd stands r t o packets n parts state → length state.table.cells ≡ size_of state.table.shape
   whole parts state end =
@@ -155,7 +163,7 @@ rules_there packets o = refl
 
 settled_is : (packets : List Packet) (o : Options) (n cell : ℕ) → IsLawful o → All (λ p. p.amount < 2 ^ 32) packets
     → settled_cell (terms_of packets o) o n cell ≡ fold (terms_of packets o).rules.join (told_of (terms_of packets o).rules cell (folded_after (terms_of packets o) o n))
-    (residues_of (terms_of packets o) (λ w. own_rounds (terms_of packets o) o w n fresh_worker) o.workers cell)
+    (map (λ w. residue_by (terms_of packets o) (λ v. own_rounds (terms_of packets o) o v n fresh_worker) w cell) (range_with_len 0 o.workers))
 unfolding settled_cell
 settled_is packets o n cell lawful small =
     let t = terms_of packets o in
@@ -174,7 +182,7 @@ module _ {K H : Type 0} (stands : H → ℤ → ℤ → Type 0) (r : Rules) (pac
     (terms : AreTerms r (terms_of packets o) o packets) where
   pub table_is : (n : ℕ) (parts : List (Part K H)) (state : StateView) (old new : TableView) → IsAtEnd stands r (terms_of packets o) o packets n parts state → old ≡ state.table → new.shape ≡ old.shape
       → length new.cells ≡ size_of new.shape
-      → ((t : Terms) (xs : ℕ → Worker) → t.rules ≡ r → ((w : ℕ) (p : Part K H) → w < length parts → Keeps stands t w (slice_index_or parts w p).counter (xs w)) → HasJoined t xs (length parts) (size_of old.shape) old.cells new.cells)
+      → ((t : Terms) (xs : ℕ → Worker) → t.rules ≡ r → ((w : ℕ) (p : Part K H) → w < length parts → Keeps stands t w (slice_index_or parts w p).counter (xs w)) → HasJoined t.rules.join (residue_by t xs) (length parts) (size_of old.shape) old.cells new.cells)
       → new ≡ sequential_table r o.shape packets
   unfolding sequential_table
   table_is n parts state old new end was shape_is len joined =
@@ -189,8 +197,8 @@ module _ {K H : Type 0} (stands : H → ℤ → ℤ → Type 0) (r : Rules) (pac
       let each : (cell : ℕ) → cell < size_of o.shape → get_or new.cells cell (pos 0) ≡ sequential r o.shape packets cell = λ cell lt.
       let before : value_at old.cells cell ≡ told_of r cell (folded_after t o n) = ap (λ (z : TableView). value_at z.cells cell) was ∙ ap (λ (l : List ℤ). value_at l cell) shows.cells ∙ told_at r o (folded_after t o n) cell lt in
       all cell (subst (λ s. cell < size_of s) (sym old_shape) lt)
-      ∙ ap (λ z. fold t.rules.join z (residues_of t xs (length parts) cell)) (before ∙ ap (λ (z : Rules). told_of z cell (folded_after t o n)) (sym terms.runs.rules))
-      ∙ ap (λ k. fold t.rules.join (told_of t.rules cell (folded_after t o n)) (residues_of t xs k cell)) workers
+      ∙ ap (λ z. fold t.rules.join z (map (λ w. residue_by t xs w cell) (range_with_len 0 (length parts)))) (before ∙ ap (λ (z : Rules). told_of z cell (folded_after t o n)) (sym terms.runs.rules))
+      ∙ ap (λ k. fold t.rules.join (told_of t.rules cell (folded_after t o n)) (map (λ w. residue_by t xs w cell) (range_with_len 0 k))) workers
       ∙ sym (settled_is packets o n cell lawful small)
       ∙ settled_sequential packets o n lawful small idle cell
       ∙ ap (λ (z : Rules). sequential z o.shape packets cell) (sym rules_is) in

@@ -1,34 +1,15 @@
 -- What is left of each worker once all is folded.
-use Rattle.std.specs.Prelude.{◌≡◌, ◌<◌, ℕ, ℤ, List, [], Bool, false, length, map, fold, slice_index_or}
-use Rattle.std.specs.List.{range_with_len}
-use Rattle.hash_rows.specs.declared.shape.Shape.{Shape}
+use Rattle.std.specs.Prelude.{◌≡◌, ◌<◌, ℕ, ℤ, List, [], Bool, false, length, slice_index_or}
 use Rattle.hash_rows.specs.Rules.{Rules}
-use Rattle.hash_rows.specs.Shapes.{size_of}
-use Rattle.hash_rows.specs.Tables.{value_at}
 use Rattle.push_history.specs.LagRun.{Terms, Worker, updates_by}
 use Rattle.push_history.specs.Pushes.{is_refused}
 use Rattle.push_history.specs.Residue.{residue}
-use Rattle.push_rule.specs.Counters.{CounterView}
 use Rattle.push_rule.specs.Keeps.{Keeps}
 use Rattle.octo_engine.specs.declared.worker.Part.{Part}
 
--- what the workers counted of a cell and did not tell, one after another
-abbrev pub residues_of : Terms → (ℕ → Worker) → ℕ → ℕ → List ℤ
-residues_of t xs n cell = map (λ w. residue t.rules (updates_by t w) (xs w).sent (xs w).counted cell) (range_with_len 0 n)
-
--- the residues of the first n workers are joined into each cell
-abbrev pub HasJoined : Terms → (ℕ → Worker) → ℕ → ℕ → List ℤ → List ℤ → Type 0
-HasJoined t xs n size old new = (cell : ℕ) → cell < size
-    → value_at new cell ≡ fold t.rules.join (value_at old cell) (residues_of t xs n cell)
-
-module _ {Held : Type 0} where
-  -- the counter is that of a worker of some run, for a table of this shape
-  pub record IsOfSomeRun (r : Rules) (stands : Held → ℤ → ℤ → Type 0) (shape : Shape) (w : ℕ) (d : CounterView Held) : Type 0 where
-    pub t : Terms
-    pub x : Worker
-    pub rules : t.rules ≡ r
-    pub keeps : Keeps stands t w d x
-    pub cells : length d.sketch.held ≡ size_of shape
+-- what the worker counted of a cell and did not tell
+abbrev pub residue_by : Terms → (ℕ → Worker) → ℕ → ℕ → ℤ
+residue_by t xs w cell = residue t.rules (updates_by t w) (xs w).sent (xs w).counted cell
 
 module _ {K Held : Type 0} where
   -- the bits tell of each update of the worker whether it was refused

@@ -1,18 +1,16 @@
 //! What a run comes to.
-ghost use Rattle.std.specs.Prelude.{◌≡◌, ◌^◌, ◌<◌, ◌≤◌, ℕ, All, length, IfOk, ◌+◌, [], map, fold, false, true, slice_index_or};
+ghost use Rattle.std.specs.Prelude.{◌≡◌, ◌^◌, ◌<◌, ◌≤◌, ℕ, All, length, IfOk, slice_index_or};
 ghost use Rattle.hash_rows.specs.Lawful.{IsLawful};
 ghost use Rattle.hash_rows.specs.Sequential.{sequential_table};
 ghost use Rattle.push_history.specs.Journal.{terms_of};
 ghost use Rattle.octo_engine.specs.Looks.{AreAllLooks};
 ghost use Rattle.octo_engine.specs.Rounds.{IsAtEnd};
 ghost use Rattle.octo_engine.specs.Settles.{HasOutcome};
-ghost use Rattle.std.specs.List.{range_with_len};
 ghost use Rattle.hash_rows.specs.Shapes.{size_of};
-ghost use Rattle.hash_rows.specs.Tables.{value_at};
-ghost use Rattle.push_history.specs.LagRun.{Terms, Worker, updates_by};
-ghost use Rattle.push_history.specs.Residue.{residue};
+ghost use Rattle.push_history.specs.LagRun.{Terms, Worker};
 ghost use Rattle.push_rule.specs.Keeps.{Keeps};
-ghost use Rattle.octo_engine.specs.Residues.{HasJoined, HasRefused, IsOfSomeRun, IsRow};
+ghost use Rattle.push_rule.specs.Residues.{HasJoined, IsWorkerFor};
+ghost use Rattle.octo_engine.specs.Residues.{HasRefused, IsRow, residue_by};
 
 use crate::looks::{answers_from, copy_counts};
 use crate::run::Settled;
@@ -23,7 +21,7 @@ use heavy_keys::Heavy;
 use listed::Listed;
 use live_state::State;
 use push_history::RunLists;
-use push_rule::Counter;
+use push_rule::join_residue;
 use std::alloc::Global;
 
 /// What the run comes to, from the parts, the state and the looks after its last round.
@@ -83,34 +81,17 @@ fn table_of<K: Kind>(
 
 // Joins into each cell what each worker counted of it and did not tell.
 fn join_residues<K: Kind>(table: &mut Table<K>, parts: &[Part<K>])
-    requires kept { (w : ℕ) (p : _) → w < length parts.now
-        → IsOfSomeRun K.rules K.stands table.old.shape w (slice_index_or parts.now w p).counter }
+    requires each { (w : ℕ) (p : _) → w < length parts.now
+        → IsWorkerFor K.stands K.rules table.old.shape (slice_index_or parts.now w p).counter.sketch }
     requires size { length table.old.cells ≡ size_of table.old.shape }
     ensures shape { table.new.shape ≡ table.old.shape }
     ensures size { length table.new.cells ≡ size_of table.new.shape }
     ensures cells { (t : Terms) (xs : ℕ → Worker) → t.rules ≡ K.rules
         → ((w : ℕ) (p : _) → w < length parts.now → Keeps K.stands t w (slice_index_or parts.now w p).counter (xs w))
-        → HasJoined t xs (length parts.now) (size_of table.old.shape) table.old.cells table.new.cells }
+        → HasJoined t.rules.join (residue_by t xs) (length parts.now) (size_of table.old.shape) table.old.cells table.new.cells }
 {
     for part in parts {
-        join_residue(table, &part.counter);
-    }
-}
-
-// Joins into each cell what the worker counted of it and did not tell.
-fn join_residue<K: Kind>(table: &mut Table<K>, counter: &Counter<K>)
-    requires kept { (w : ℕ) × IsOfSomeRun K.rules K.stands table.old.shape w counter.now }
-    requires size { length table.old.cells ≡ size_of table.old.shape }
-    ensures shape { table.new.shape ≡ table.old.shape }
-    ensures size { length table.new.cells ≡ size_of table.new.shape }
-    ensures cells { (t : Terms) (w : ℕ) (x : Worker) → t.rules ≡ K.rules → Keeps K.stands t w counter.now x
-        → (cell : ℕ) → cell < size_of table.old.shape
-        → value_at table.new.cells cell ≡ t.rules.join (value_at table.old.cells cell)
-        (residue t.rules (updates_by t w) x.sent x.counted cell) }
-{
-    let shape = table.shape();
-    for cell in 0..shape.rows * shape.columns {
-        table.put(cell, counter.residue(cell));
+        join_residue(table, part.counter.sketch());
     }
 }
 

@@ -34,6 +34,11 @@ whole_next t w x u = t.rules.join (whole_of t.rules u.cell (take x.counted (upda
 abbrev pub distance_next : Terms → ℕ → Worker → Update → ℕ
 distance_next t w x u = t.rules.distance (told_of t.rules u.cell x.sent) (whole_next t w x u)
 
+-- what the sketch stands for, by the kind's rules
+pub sketch_stands : {H : Type 0} (stands : H → ℤ → ℤ → Type 0) (t : Terms) (w : ℕ) (d : CounterView H) (x : Worker) → Keeps stands t w d x → (r : Rules) → t.rules ≡ r
+    → StandsFor stands r d.sketch (take x.counted (updates_by t w)) x.sent x.refused
+sketch_stands stands t w d x keeps r same = subst (λ (q : Rules). StandsFor stands q d.sketch (take x.counted (updates_by t w)) x.sent x.refused) same keeps.sketch
+
 module _ {H : Type 0} (stands : H → ℤ → ℤ → Type 0) (t : Terms) (w : ℕ) (d : CounterView H) (x : Worker) (u : Update) (keeps : Keeps stands t w d x)
     (lt : x.counted < length (updates_by t w)) (at : update_at (updates_by t w) x.counted ≡ u) where
   pub are_pushes : ArePushes t.rules d.sketch.threshold (take x.counted (updates_by t w)) x.sent x.refused
@@ -101,10 +106,9 @@ module _ {H : Type 0} (stands : H → ℤ → ℤ → Type 0) (t : Terms) (w : �
       → StandsFor stands t.rules mid (take x.counted (updates_by t w) ++ u ∷ []) x.sent x.refused
   counted_next r same v value mid h =
       let U = take x.counted (updates_by t w) in
-      let by_r : StandsFor stands r d.sketch U x.sent x.refused = subst (λ (q : Rules). StandsFor stands q d.sketch U x.sent x.refused) same keeps.sketch in
       subst (λ (q : Rules). StandsFor stands q mid (U ++ u ∷ []) x.sent x.refused) (sym same)
       (subst (λ (z : ℤ). StandsFor stands r mid (U ++ record { packet = u.packet; key = u.key; cell = u.cell; value = z } ∷ []) x.sent x.refused) value
-      (h u.packet u.key U x.sent x.refused by_r))
+      (h u.packet u.key U x.sent x.refused (sketch_stands stands t w d x keeps r same)))
 
   -- the number of the update that is due
   pub number_is : (mid : PrivateView H) → StandsFor stands t.rules mid (take x.counted (updates_by t w) ++ u ∷ []) x.sent x.refused → mid.counted - 1 ≡ x.counted
@@ -310,16 +314,14 @@ keeps_cleared {H} stands t w d d' x keeps sketch worker lane full queue taken = 
   taken_within = omega (arith, taken);
 }
 
--- the residue after the updates that were counted
-pub residue_is : {H : Type 0} (stands : H → ℤ → ℤ → Type 0) (t : Terms) (w : ℕ) (d : CounterView H) (x : Worker) → Keeps stands t w d x → (r : Rules) → t.rules ≡ r → (cell : ℕ) (z : ℤ)
-    → ((updates : List Update) (messages : List Push) (refused : List ℕ) → StandsFor stands r d.sketch updates messages refused → z ≡ residue r updates messages (length updates) cell)
-    → z ≡ residue t.rules (updates_by t w) x.sent x.counted cell
+-- the residue of the updates that were counted is the residue there of all
+pub residue_is : {H : Type 0} (stands : H → ℤ → ℤ → Type 0) (t : Terms) (w : ℕ) (d : CounterView H) (x : Worker) → Keeps stands t w d x → (r : Rules) → t.rules ≡ r → (cell : ℕ)
+    → residue r (take x.counted (updates_by t w)) x.sent (length (take x.counted (updates_by t w))) cell ≡ residue t.rules (updates_by t w) x.sent x.counted cell
 unfolding residue whole
-residue_is {H} stands t w d x keeps r same cell z h =
+residue_is stands t w d x keeps r same cell =
     let U = take x.counted (updates_by t w) in
-    let by_t = subst (λ (q : Rules). StandsFor stands q d.sketch U x.sent x.refused → z ≡ residue q U x.sent (length U) cell) (sym same) (h U x.sent x.refused) in
     let len : length U ≡ x.counted = omega (arith, length-take x.counted (updates_by t w), keeps.within) in
-    by_t keeps.sketch
+    ap (λ (q : Rules). residue q U x.sent (length U) cell) (sym same)
     ∙ ap (λ n. t.rules.gap (told t.rules x.sent n cell) (whole_of t.rules cell (take n U))) len
     ∙ ap (λ (l : List Update). t.rules.gap (told t.rules x.sent x.counted cell) (whole_of t.rules cell l)) (take-take x.counted x.counted (updates_by t w) (omega arith))
 

@@ -1,3 +1,4 @@
 pub mod Stands
 pub mod Counters
 pub mod Keeps
+pub mod Residues

@@ -100,6 +100,13 @@ impl<K: Kind> Counter<K> {
         self.sketch.counted()
     }
 
+    /// What it counted of each cell and told of it.
+    pub fn sketch(&self) -> &Private<K>
+        ensures { result.now ≡ self.now.sketch }
+    {
+        &self.sketch
+    }
+
     /// Whether there are updates left to count, or messages in the lane.
     pub fn is_busy(&self) -> bool
         ensures { result ≡ (nat_lt self.now.sketch.counted self.now.sketch.room || nat_lt 0 (in_lane self.now)) }

@@ -14,13 +14,13 @@ use Rattle.hash_rows.specs.Shapes.{size_of}
 use Rattle.hash_rows.specs.Tables.{TableView}
 use Rattle.push_history.specs.Journal.{rules_in}
 use Rattle.push_history.proofs.MoreMessages.{front_len}
+use Rattle.push_rule.specs.Residues.{Counted, HasJoined, IsWorkerFor, residue_of}
 use Rattle.push_rule.specs.Stands.{PrivateView, StandsFor}
 use Rattle.live_state.specs.Shows.{Shows}
 use Rattle.thread_ends.specs.Ends.{both_fulls, both_sents}
 use Rattle.thread_law.specs.Ran.{HasRan, marked_by}
 use Rattle.thread_setup.specs.declared.spare.Spare.{Spare}
 use Rattle.thread_engine.specs.Ended.{IsAllPublished}
-use Rattle.thread_engine.specs.Residues.{Counted, HasJoined, IsWorkerFor}
 use Rattle.thread_engine.proofs.Outcomes.{cells_by, counted_by, its, live_few, ran_is, refused_is, shows, stands_by, table_is}
 
 module _ {K H : Type 0} (stands : H → ℤ → ℤ → Type 0) (r : Rules) (o : Options) (packets : List Packet) (is : r ≡ rules_in o) (lawful : IsLawful o) (small : All (λ p. p.amount < 2 ^ 32) packets)
@@ -46,9 +46,6 @@ module _ {K H : Type 0} (stands : H → ℤ → ℤ → Type 0) (r : Rules) (o :
   pub live_room : length spare.state.heavy.keys ≤ spare.live.room
   live_room = omega (arith, live_few stands packets o lawful small sketches sents fulls h.told published h.taken h.fit h.few spare.state h.state, h.live.1)
 
-  pub rows_room : length sketches ≤ spare.refused.room
-  rows_room = omega (arith, h.told.sketches_len, h.refused.1)
-
   abbrev by : ℕ → Counted
   by = counted_by stands packets o lawful small sketches sents fulls h.told
 
@@ -66,9 +63,9 @@ module _ {K H : Type 0} (stands : H → ℤ → ℤ → Type 0) (r : Rules) (o :
 
   pub whole_table : (old new : TableView) → old ≡ spare.state.table → new.shape ≡ old.shape → length new.cells ≡ size_of new.shape
       → ((of : ℕ → Counted) → ((w : ℕ) (s : PrivateView H) → w < length sketches → StandsFor stands r (get_or sketches w s) (of w).updates (of w).messages (of w).refused)
-      → HasJoined r of (length sketches) (size_of old.shape) old.cells new.cells) → new ≡ sequential_table r o.shape packets
+      → HasJoined r.join (λ w. residue_of r (of w)) (length sketches) (size_of old.shape) old.cells new.cells) → new ≡ sequential_table r o.shape packets
   whole_table old new was shape len joined =
-      let all = subst (λ (z : Rules). HasJoined z by (length sketches) (size_of old.shape) old.cells new.cells) is (joined by own) in
+      let all = subst (λ (z : Rules). HasJoined z.join (λ w. residue_of z (by w)) (length sketches) (size_of old.shape) old.cells new.cells) is (joined by own) in
       subst (λ (z : Rules). new ≡ sequential_table z o.shape packets) (sym is)
       (table_is stands packets o lawful small sketches sents fulls h.told published h.taken h.fit h.few spare.state h.state old new was shape len all)
 

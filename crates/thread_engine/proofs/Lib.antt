@@ -1,7 +1,6 @@
 mod Answering
 mod Concluding
 mod Ending
-mod Joining
 mod Leaving
 mod Outcomes
 mod Publishing

@@ -27,6 +27,7 @@ use Rattle.push_history.proofs.Fitting.{rules_lawful}
 use Rattle.push_history.proofs.Joins.{told_value}
 use Rattle.push_history.proofs.Marked.{marked_is}
 use Rattle.push_history.proofs.PlaceLists.{map_at}
+use Rattle.push_rule.specs.Residues.{Counted, HasJoined, residue_of}
 use Rattle.push_rule.specs.Stands.{PrivateView, StandsFor}
 use Rattle.aggregate.specs.Takens.{AreNamed, AreTaken}
 use Rattle.fold_law.specs.Folds.{IsFoldOf}
@@ -40,7 +41,6 @@ use Rattle.thread_law.specs.Ran.{AreAnswers, HasRan, marked_by, settled_of}
 use Rattle.thread_law.proofs.Fitting.{all_fit, fit_values, fold_of}
 use Rattle.thread_law.proofs.Sequentials.{settled_sequential}
 use Rattle.thread_engine.specs.Tellings.{HasToldAll, HaveToldAll}
-use Rattle.thread_engine.specs.Residues.{Counted, HasJoined, residue_of}
 
 pub some_item : {A : Type 0} (xs : List A) (n : ℕ) → n < length xs → A
 some_item [] n lt = absurd (omega (arith, lt))
@@ -119,7 +119,7 @@ module _ {H : Type 0} (stands : H → ℤ → ℤ → Type 0) (packets : List Pa
     state_shape = shows.shape
 
     pub table_is : (old new : TableView) → old ≡ s.table → new.shape ≡ old.shape → length new.cells ≡ size_of new.shape
-        → HasJoined (rules_in o) counted_by (length sketches) (size_of old.shape) old.cells new.cells → new ≡ sequential_table (rules_in o) o.shape packets
+        → HasJoined (rules_in o).join (λ w. residue_of (rules_in o) (counted_by w)) (length sketches) (size_of old.shape) old.cells new.cells → new ≡ sequential_table (rules_in o) o.shape packets
     unfolding sequential_table told_cells
     table_is old new was shape_is len joined =
         let r = rules_in o in

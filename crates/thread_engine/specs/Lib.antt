@@ -1,5 +1,4 @@
 pub mod Ended
 pub mod Left
 pub mod Readers
-pub mod Residues
 pub mod Tellings

@@ -1,10 +1,10 @@
 use Rattle.std.proofs.Common.{◌∙◌, ◌<◌, ◌≤◌, ℕ, List, length, slice_index_or, ap, subst, sym}
 use Rattle.hash_rows.specs.Shapes.{size_of}
 use Rattle.hash_rows.specs.Tables.{TableView}
+use Rattle.push_rule.specs.Residues.{Counted, HasJoined, IsWorkerFor, residue_of}
 use Rattle.push_rule.specs.Stands.{PrivateView, StandsFor}
 use Rattle.octo_engine.proofs.Beginning.{rules_are}
-use Rattle.thread_engine.specs.Residues.{Counted, HasJoined, IsWorkerFor}
-use Rattle.thread_engine.proofs.Concluding.{each_for, fronts_few, fulls_are, has_ran, live_room, rows_room, whole_table}
+use Rattle.thread_engine.proofs.Concluding.{each_for, fronts_few, fulls_are, has_ran, live_room, whole_table}
 use Rattle.thread_engine.proofs.settling.conclude.Goals as goal
 
 pub fill_counts-requires : goal.fill_counts-requires
@@ -57,6 +57,6 @@ returns-clause-table g c =
     let old = c.into_table-table.result in
     let joined = subst (λ (xs : List (PrivateView g.row.K-Held.Denot)). (of : ℕ → Counted)
     → ((w : ℕ) (s : PrivateView g.row.K-Held.Denot) → w < length xs → StandsFor g.K.Kind.stands g.K.Kind.rules (slice_index_or xs w s) (of w).updates (of w).messages (of w).refused)
-    → HasJoined g.K.Kind.rules of (length xs) (size_of old.shape) old.cells c.join_residues.new.table.cells) c.as_slice.ensures c.join_residues.ensures.joined in
+    → HasJoined g.K.Kind.rules.join (λ w. residue_of g.K.Kind.rules (of w)) (length xs) (size_of old.shape) old.cells c.join_residues.new.table.cells) c.as_slice.ensures c.join_residues.ensures.joined in
     whole_table g.K.Kind.stands g.K.Kind.rules o c.args.packets.now is c.requires.lawful c.requires.amounts c.requires.published.0 c.args.spare c.requires.published.1
     c.into_table-table.result c.join_residues.new.table c.into_table-table.ensures c.join_residues.ensures.shape c.join_residues.ensures.size joined

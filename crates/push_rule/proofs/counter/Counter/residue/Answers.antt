@@ -3,14 +3,15 @@ use Rattle.std.proofs.lemmas.Int.{to_z-of_z}
 use mir.Val.{SFits}
 use Rattle.push_rule.specs.Counters.{CounterView}
 use Rattle.push_rule.specs.Keeps.{Keeps}
-use Rattle.push_rule.proofs.CounterSteps.{residue_is, residue_value}
+use Rattle.push_rule.proofs.CounterSteps.{residue_is, residue_value, sketch_stands}
 use Rattle.push_rule.proofs.counter.Counter.residue.Goals as goal
 
 pub returns-clause-residue : goal.returns-clause-residue
 returns-clause-residue g c = λ t w x same keeps.
     let fits : SFits w64 c.residue.result = search rules in
     let inner = subst (λ (d : CounterView g.row.K-Held.Denot). Keeps g.K.Kind.stands t w d x) (sym c.self.view_is) keeps in
-    to_z-of_z w64 c.residue.result fits ∙ residue_is g.K.Kind.stands t w _ x inner g.K.Kind.rules same c.args.cell c.residue.result c.residue.ensures.stands
+    to_z-of_z w64 c.residue.result fits ∙ c.residue.ensures.stands _ _ _ (sketch_stands g.K.Kind.stands t w _ x inner g.K.Kind.rules same)
+    ∙ residue_is g.K.Kind.stands t w _ x inner g.K.Kind.rules same c.args.cell
 
 pub returns-clause-value : goal.returns-clause-value
 returns-clause-value g c = λ t w x same keeps.

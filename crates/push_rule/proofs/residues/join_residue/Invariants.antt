@@ -5,7 +5,7 @@ use Rattle.hash_rows.specs.Shapes.{size_of}
 use Rattle.hash_rows.specs.Tables.{value_at}
 use Rattle.push_history.specs.Residue.{residue}
 use Rattle.push_rule.specs.Stands.{StandsFor}
-use Rattle.thread_engine.proofs.table.join_residue.Given as goal
+use Rattle.push_rule.proofs.residues.join_residue.Given as goal
 
 abbrev pub invariant-loop-cell : goal.invariant-loop-cell
 invariant-loop-cell g l =

@@ -1,4 +1,4 @@
--- What is left of each worker once all is folded.
+-- What workers counted and did not tell, joined into a table.
 use Rattle.std.specs.Prelude.{◌≡◌, ◌<◌, ℕ, ℤ, List, length, map, fold}
 use Rattle.std.specs.List.{range_with_len}
 use Rattle.hash_rows.specs.declared.shape.Push.{Push}
@@ -20,10 +20,10 @@ pub record Counted : Type 0 where
 abbrev pub residue_of : Rules → Counted → ℕ → ℤ
 residue_of r c cell = residue r c.updates c.messages (length c.updates) cell
 
--- the residues of the first n workers are joined into each cell
-abbrev pub HasJoined : Rules → (ℕ → Counted) → ℕ → ℕ → List ℤ → List ℤ → Type 0
-HasJoined r by n size old new = (cell : ℕ) → cell < size
-    → value_at new cell ≡ fold r.join (value_at old cell) (map (λ w. residue_of r (by w) cell) (range_with_len 0 n))
+-- the residues of the first n workers, by worker and cell, are joined into each cell
+abbrev pub HasJoined : (ℤ → ℤ → ℤ) → (ℕ → ℕ → ℤ) → ℕ → ℕ → List ℤ → List ℤ → Type 0
+HasJoined join left n size old new = (cell : ℕ) → cell < size
+    → value_at new cell ≡ fold join (value_at old cell) (map (λ w. left w cell) (range_with_len 0 n))
 
 -- the sketch is that of a worker, for a table of this shape
 pub record IsWorkerFor {H : Type 0} (stands : H → ℤ → ℤ → Type 0) (r : Rules) (shape : Shape) (s : PrivateView H) : Type 0 where

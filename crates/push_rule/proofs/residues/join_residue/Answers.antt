@@ -1,11 +1,10 @@
-use Rattle.std.proofs.Common.{rules, ◌≡◌, ◌∙◌, ◌<◌, ℤ, sym, ap, subst, true, w64, to_z, of_z, length, length-set, set}
+use Rattle.std.proofs.Common.{rules, ◌∙◌, ◌<◌, ap, w64, length, length-set}
 use Rattle.std.proofs.lemmas.Int.{to_z-of_z}
 use mir.Val.{SFits}
-use Rattle.hash_rows.specs.Tables.{value_at}
 use Rattle.push_history.specs.Residue.{residue}
 use Rattle.push_rule.proofs.CounterSteps.{residue_value}
-use Rattle.octo_engine.proofs.Settling.{cell_kept, cell_more}
-use Rattle.thread_engine.proofs.table.join_residue.Goals as goal
+use Rattle.push_rule.proofs.Joining.{cell_kept, cell_more}
+use Rattle.push_rule.proofs.residues.join_residue.Goals as goal
 
 pub put-requires-clause-value : goal.put-requires-clause-value
 put-requires-clause-value g c κs within =
