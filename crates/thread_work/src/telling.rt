@@ -58,10 +58,10 @@ pub fn tell<K: Kind, R: Wait>(
         → HasTold K.stands K.rules worker lane.now.capacity full sketch.new pass.new
         (updates ++ record { packet = packet; key = key.now; cell = cell; value = value } ∷ []) }
 {
-    let number = sketch.counted();
     match sketch.count(cell, value) {
         None => (),
         Some(amount) => {
+            let number = sketch.counted() - 1;
             let message = Push {
                 worker,
                 packet,

@@ -21,7 +21,7 @@ returns-then-send-clause-told g c = λ U h.
     let stood = counted_next g.K.Kind.stands g.K.Kind.rules _ _ _ _ _ U (record { packet = c.args.packet; key = c.args.key.now; cell = c.args.cell; value = c.args.value }) h _ value c.count.new.self c.in-Some.ensures.stands in
     let fits_amount : SFits w64 c.in-Some.amount = search rules in
     told_sent g.K.Kind.stands g.K.Kind.rules _ _ _ _ _ U (record { packet = c.args.packet; key = c.args.key.now; cell = c.args.cell; value = c.args.value }) h c.count.new.self c.sent.new.self c.send.new.pass _ c.in-Some.ensures.marked stood
-    (c.sent.ensures.threshold ∙ c.in-Some.ensures.threshold) far.0 refl refl c.counted-number.ensures refl refl (to_z-of_z w64 c.in-Some.amount fits_amount ∙ far.1)
+    (c.sent.ensures.threshold ∙ c.in-Some.ensures.threshold) far.0 refl refl (omega (arith, c.counted-number.ensures, c.in-Some.ensures.counted)) refl refl (to_z-of_z w64 c.in-Some.amount fits_amount ∙ far.1)
     c.if-send.ensures.sent.0 c.if-send.ensures.sent.1 c.sent.ensures.stands
 
 pub returns-else-send-clause-told : goal.returns-else-send-clause-told
