@@ -42,6 +42,22 @@ packet_there rows place first n lt = elim (cases_lt place n) [
   | inr past ↦ let times : rows * n ≤ rows * place = mul-le-mul_left rows past in absurd (omega (arith, lt, times))
 ]
 
+-- a packet ahead of those that are counted, one of so many for which there are updates left
+pub ahead_there : (rows place ahead many n : ℕ) → ahead < many → rows * place + rows * many ≤ rows * n
+    → (rows * (place + ahead) + rows ≤ rows * n) × (rows * ahead + rows ≤ rows * many)
+ahead_there rows place ahead many n lt within =
+    let next : rows * suc ahead ≡ rows * ahead + rows = mul-suc rows ahead in
+    let times : rows * suc ahead ≤ rows * many = mul-le-mul_left rows (omega (arith, lt)) in
+    let sum : rows * (place + ahead) ≡ rows * place + rows * ahead = grind arith in
+    (omega (arith, sum, next, times, within), omega (arith, next, times))
+
+-- a packet of which fewer rows weren't counted than it has is counted whole
+pub whole_packet : (some rows : ℕ) → some ≤ rows → (some < rows → 0 + some ≡ rows) → some ≡ rows
+whole_packet some rows most whole = elim (cases_lt some rows) [
+  | inl less ↦ omega (arith, whole less)
+  | inr least ↦ omega (arith, most, least)
+]
+
 pub rows_times : (rows n most : ℕ) → rows ≤ 8 → n ≤ most → rows * n ≤ 8 * most
 rows_times rows n most few less =
     let times : rows * n ≤ 8 * n = mul-le-mul_right n few in

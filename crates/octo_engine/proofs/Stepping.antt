@@ -124,6 +124,17 @@ module _ {H : Type 0} where
       let same : row - first + 1 ≡ row + 1 - first = omega (arith, le) in
       subst (λ n. HasMoved a c n waits) same (moved_then a b c (row - first) 1 waits x y)
 
+  -- once a push waits, the worker counts no more
+  pub moved_ends : (a b : CounterView H) (n m : ℕ) → n ≤ m → HasMoved a b n true → HasMoved a b m true
+  moved_ends a b n m le x = record {
+    same = x.same;
+    grows = x.grows;
+    queue = x.queue;
+    behind = x.behind;
+    most = let most = x.most in omega (arith, le, most);
+    all = λ not. absurd (true≢false not);
+  }
+
 module _ {H : Type 0} (stands : H → ℤ → ℤ → Type 0) (t : Terms) (w : ℕ) where
   -- once a push waits, no more updates are counted
   pub counted_ends : (x : Worker) (n m : ℕ) (d : CounterView H) → n ≤ m → HasCounted stands t w x n true d → HasCounted stands t w x m true d

@@ -136,11 +136,98 @@ fn count_updates<K: Kind>(
     // A copy, of which the loops read nothing again.
     let shape = options.shape;
     let counted = counter.counted();
-    let mut place = counted / shape.rows;
-    let mut first = counted % shape.rows;
-    let mut left = count;
+    let place = counted / shape.rows;
+    let first = counted % shape.rows;
+    if first > 0 {
+        count_rest(
+            counter, share, packets, options, &shape, place, first, count,
+        );
+        return;
+    }
+    let many = count / shape.rows;
+    if count_packets(counter, share, packets, options, &shape, place, many) {
+        return;
+    }
+    let left = count - shape.rows * many;
+    count_rest(
+        counter,
+        share,
+        packets,
+        options,
+        &shape,
+        place + many,
+        0,
+        left,
+    );
+}
+
+// Counts what so many packets add, from this place of the worker's share on. Answers whether a push
+// has to wait.
+fn count_packets<K: Kind>(
+    counter: &mut Counter<K>,
+    share: &Positions,
+    packets: &[Packet],
+    options: &Options,
+    shape: &Shape,
+    place: u32,
+    many: u32,
+) -> bool
+    requires same { shape.now ≡ options.now.shape }
+    requires shape { IsShape options.now.shape }
+    requires fit { IsFit options.now (length packets.now) share.now counter.old }
+    requires room { counter.old.taken + options.now.lane < counter.old.room }
+    requires next { counter.old.sketch.counted ≡ options.now.shape.rows * place }
+    requires count { counter.old.sketch.counted + options.now.shape.rows * many ≤ counter.old.sketch.room }
+    ensures keeps { (t : Terms) (w : ℕ) (x : Worker) → HasShare K.rules t options.now.shape packets.now w share.now
+        → Keeps K.stands t w counter.old x
+        → HasCounted K.stands t w x (options.now.shape.rows * many) result counter.new }
+    ensures moved { HasMoved counter.old counter.new (options.now.shape.rows * many) result }
+{
+    for ahead in 0..many {
+        match count_packet(
+            counter,
+            share,
+            packets,
+            options,
+            shape,
+            place + ahead,
+            0,
+            shape.rows,
+        ) {
+            Some(_) => {}
+            None => return true,
+        }
+    }
+    false
+}
+
+// Counts so many of the worker's next updates, from the packet at this place of its share on, of
+// which it has counted the first rows, ending early where a push waits.
+fn count_rest<K: Kind>(
+    counter: &mut Counter<K>,
+    share: &Positions,
+    packets: &[Packet],
+    options: &Options,
+    shape: &Shape,
+    place: u32,
+    first: u32,
+    count: u32,
+)
+    requires same { shape.now ≡ options.now.shape }
+    requires shape { IsShape options.now.shape }
+    requires fit { IsFit options.now (length packets.now) share.now counter.old }
+    requires room { counter.old.taken + options.now.lane < counter.old.room }
+    requires next { (first < options.now.shape.rows) × (counter.old.sketch.counted ≡ options.now.shape.rows * place + first) }
+    requires count { counter.old.sketch.counted + count ≤ counter.old.sketch.room }
+    ensures keeps { (t : Terms) (w : ℕ) (x : Worker) → HasShare K.rules t options.now.shape packets.now w share.now
+        → Keeps K.stands t w counter.old x → Keeps K.stands t w counter.new (counts t w count x) }
+    ensures fit { IsFit options.now (length packets.now) share.now counter.new }
+    ensures same { KeepsSettings counter.old counter.new }
+    ensures grows { Extends counter.old.queue counter.new.queue }
+{
+    let (mut place, mut first, mut left) = (place, first, count);
     while left > 0 {
-        match count_packet(counter, share, packets, options, &shape, place, first, left) {
+        match count_packet(counter, share, packets, options, shape, place, first, left) {
             Some(some) => left -= some,
             None => return,
         }
@@ -151,6 +238,7 @@ fn count_updates<K: Kind>(
 
 // Counts the worker's next updates, at most so many, of the packet at this place of its share, of
 // which it has counted the first rows. Answers how many, or None where a push waits.
+#[inline(always)]
 fn count_packet<K: Kind>(
     counter: &mut Counter<K>,
     share: &Positions,
@@ -187,6 +275,7 @@ fn count_packet<K: Kind>(
 
 // Counts what the packet adds in some of its rows. Answers whether a push has to wait. The key's
 // bytes are hashed once.
+#[inline(always)]
 fn count_rows<K: Kind>(
     counter: &mut Counter<K>,
     packet: &Packet,

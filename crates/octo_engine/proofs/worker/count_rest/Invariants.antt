@@ -2,7 +2,7 @@ use Rattle.std.proofs.Common.{◌≡◌, ◌≤◌, ◌<◌, ◌+◌, ◌*◌, �
 use Rattle.push_history.specs.LagRun.{Terms, Worker}
 use Rattle.push_rule.specs.Keeps.{Keeps}
 use Rattle.octo_engine.specs.Counts.{HasCounted, HasMoved, HasShare, IsFit}
-use Rattle.octo_engine.proofs.worker.count_updates.Given as goal
+use Rattle.octo_engine.proofs.worker.count_rest.Given as goal
 
 abbrev pub invariant-loop-left : goal.invariant-loop-left
 invariant-loop-left g l =
