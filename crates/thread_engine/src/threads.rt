@@ -19,7 +19,7 @@ use octo_engine::Settled;
 use std::alloc::Global;
 use std::sync::Wait;
 use std::thread::Threads;
-use thread_run::run_beside;
+use thread_run::{FoldPart, RestPart, run_beside};
 use thread_setup::{BothPasses, Lanes, Setup, set_up};
 use thread_work::Gate;
 
@@ -35,7 +35,8 @@ pub struct Ran<K: Kind> {
 
 /// Counts the packets in threads: workers, the aggregator and the readers go at their own pace,
 /// and answers come while workers count. All memory but that of appended messages is taken before
-/// the first worker starts. Where no thread can be had, a run whose pushes wait may not return.
+/// the first worker starts. A run whose pushes wait needs a thread for the aggregator: where none can
+/// be had it ends with want of memory.
 pub fn run_threads<K: Kind, R: Threads + Wait + Sync, G: Gate>(
     rt: &R,
     alloc: Global,
@@ -60,20 +61,37 @@ pub fn run_threads<K: Kind, R: Threads + Wait + Sync, G: Gate>(
     let Setup {
         keys,
         lanes,
-        mut workers,
+        workers,
         mut rest,
         spare,
     } = set_up(rt, alloc, packets, options)?;
-    run_beside(
+    let workers = match run_beside(
         rt,
         packets,
         options,
         keys.as_slice(),
         lanes.as_slice(),
         gate,
-        &mut workers,
+        workers,
         &mut rest,
-    );
+    ) {
+        Ok(workers) => workers,
+        Err(_) => {
+            close_rest(rt, rest);
+            return Err(NoMemory);
+        }
+    };
     let ran = settle(rt, packets, options, &keys, lanes, workers, rest, spare)?;
     Ok(ran)
+}
+
+// Closes the pair of a run in which no worker started.
+fn close_rest<K: Kind, R: Wait>(rt: &R, rest: RestPart<K>) {
+    let RestPart { fold, readers: _ } = rest;
+    let FoldPart {
+        aggregator,
+        failed: _,
+    } = fold;
+    let (writer, _outs) = aggregator.into_parts();
+    writer.close(rt);
 }

@@ -1,5 +1,6 @@
 -- What holds of a worker's part before and after the run.
-use Rattle.std.specs.Prelude.{◌≡◌, ◌<◌, ℕ, ℤ, ◌*◌, slice_index_or, List, [], length, None}
+use Rattle.std.specs.Prelude.{◌≡◌, ◌<◌, ℕ, ℤ, ◌*◌, slice_index_or, List, [], length, None, false, true}
+use Rattle.hash_rows.specs.declared.options.Full.TheVariants.{Wait}
 use Rattle.hash_rows.specs.declared.options.Options.{Options}
 use Rattle.hash_rows.specs.declared.shape.Packet.{Packet}
 use Rattle.hash_rows.specs.Rules.{Rules}
@@ -8,6 +9,7 @@ use Rattle.push_history.specs.Updates.{updates_of}
 use Rattle.push_lane.specs.Views.{LaneView}
 use Rattle.push_rule.specs.Stands.{StandsFor}
 use Rattle.shares.specs.Positions.{AreRising}
+use Rattle.thread_run.specs.declared.parts.Crew.{Crew}
 use Rattle.thread_run.specs.declared.parts.WorkerPart.{WorkerPart}
 use Rattle.thread_work.specs.Worked.{HasTold, KeepsSketch}
 
@@ -45,3 +47,9 @@ module _ {K H : Type 0} where
     pub len : length new ≡ length old
     pub each : (i : ℕ) (l : LaneView) (p : WorkerPart K H) → i < length lanes
         → HasWorked stands r o packets i (slice_index_or lanes i l) (slice_index_or old i p) (slice_index_or new i p)
+
+  -- each worker did its share; or none started, which is only where pushes wait for room
+  pub record IsCrewDone (stands : H → ℤ → ℤ → Type 0) (r : Rules) (o : Options) (packets : List Packet) (lanes : List LaneView)
+      (old new : Crew K H) : Type 0 where
+    pub worked : new.refused ≡ false → HaveWorked stands r o packets lanes old.workers.items new.workers.items
+    pub waits : new.refused ≡ true → o.full ≡ Wait

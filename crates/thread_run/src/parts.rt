@@ -5,6 +5,7 @@ use live_view::View;
 use push_lane::InPass;
 use push_rule::Private;
 use shares::Positions;
+use std::sync::atomic::AtomicU64;
 
 /// What a worker has to itself.
 #[derive(Drop)]
@@ -13,6 +14,22 @@ pub struct WorkerPart<K: Kind> {
     pub share: Positions,
     pub sketch: Private<K>,
     pub pass: InPass,
+}
+
+/// The parts of all workers, and whether none of them started.
+#[derive(Drop)]
+pub struct Crew<K: Kind> {
+    pub workers: Vec<WorkerPart<K>>,
+    pub refused: bool,
+}
+
+/// What workers and aggregator tell each other, each mark once: 0 before, and then 1.
+#[derive(Drop)]
+pub struct Marks {
+    /// That the aggregator has a thread, so that it takes what is pushed.
+    pub begun: AtomicU64,
+    /// That no worker pushes any more.
+    pub ended: AtomicU64,
 }
 
 /// What a reader has to itself. Its answers are as many as it asks.

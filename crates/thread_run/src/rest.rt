@@ -8,14 +8,14 @@ ghost use Rattle.thread_run.specs.Readers.{HasAsked, HaveAsked, HaveRoom};
 ghost use Rattle.thread_run.specs.Rest.{HasFolded, IsRestDone};
 
 use crate::folding::fold_all;
-use crate::parts::{FoldPart, ReaderPart, RestPart};
+use crate::parts::{FoldPart, Marks, ReaderPart, RestPart};
 use crate::reading::read;
 use beside::beside;
 use hash_rows::Kind;
 use packet_key::FlowKey;
 use push_lane::Lane;
 use std::sync::Wait;
-use std::sync::atomic::AtomicU64;
+use std::sync::atomic::Ordering;
 use std::thread::{Threads, for_each_mut};
 use thread_work::Gate;
 
@@ -59,17 +59,20 @@ fn run_all_readers<K: Kind, R: Threads + Wait + Sync, G: Gate>(
     run_readers(rt, keys, gate, parts.as_mut_slice());
 }
 
+// Tells the workers, one of which may sleep, that the aggregator has begun, and folds.
 fn run_fold<K: Kind, R: Wait, G: Gate>(
     rt: &R,
     gate: &G,
     lanes: &[Lane],
-    ended: &AtomicU64,
+    marks: &Marks,
     part: &mut FoldPart<K>,
 )
     requires { ArePassesOf lanes.now part.old.aggregator.outs }
     ensures { HasFolded K.rules lanes.now part.old part.new }
 {
-    part.failed = fold_all(rt, gate, lanes, ended, &mut part.aggregator).is_err();
+    marks.begun.store(1, Ordering::SeqCst);
+    marks.begun.wake_one();
+    part.failed = fold_all(rt, gate, lanes, &marks.ended, &mut part.aggregator).is_err();
 }
 
 /// Runs the aggregator and the readers beside each other. Where no thread can be had, the
@@ -79,7 +82,7 @@ pub fn fold_beside<K: Kind, R: Threads + Wait + Sync, G: Gate>(
     keys: &[FlowKey],
     gate: &G,
     lanes: &[Lane],
-    ended: &AtomicU64,
+    marks: &Marks,
     rest: &mut RestPart<K>,
 )
     requires few { length rest.old.readers.items ≤ 65536 }
@@ -96,7 +99,7 @@ pub fn fold_beside<K: Kind, R: Threads + Wait + Sync, G: Gate>(
         &|_: usize, part: &mut FoldPart<K>|
             requires { ArePassesOf lanes.now part.now.aggregator.outs }
             ensures { HasFolded K.rules lanes.entry.now part.entry.now part.exit.now }
-        { run_fold(rt, gate, lanes, ended, part) },
+        { run_fold(rt, gate, lanes, marks, part) },
         &mut rest.readers,
         &mut rest.fold,
     );

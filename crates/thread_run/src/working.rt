@@ -1,16 +1,25 @@
 //! What the workers do.
 ghost use Rattle.std.specs.Prelude.{◌≡◌, ◌<◌, ◌≤◌, ℕ, length, slice_index_or};
 ghost use Rattle.hash_rows.specs.Shapes.{IsShape};
-ghost use Rattle.thread_run.specs.Workers.{AreReady, HasWorked, HaveWorked, IsReady};
+ghost use Rattle.thread_run.specs.Workers.{AreReady, HasWorked, HaveWorked, IsCrewDone, IsReady};
 
-use crate::parts::WorkerPart;
-use hash_rows::{Kind, Options, Packet};
+use crate::parts::{Crew, Marks, WorkerPart};
+use hash_rows::{Full, Kind, Options, Packet};
 use push_lane::Lane;
 use std::sync::Wait;
 use std::sync::atomic::{AtomicU64, Ordering};
 use std::thread::{Threads, for_each_mut};
+use std::time::Duration;
 use thread_work::{Gate, work};
 
+// How often, and for how long at a time, the workers sleep while the aggregator hasn't begun. Ten
+// seconds are far more than its thread takes on a busy machine. Turns that only give the processor
+// away would take moments on an idle machine and hours on a busy one.
+const NAPS: u32 = 100;
+
+const NAP_MILLIS: u64 = 100;
+
+// The work of one worker.
 fn run_one<K: Kind, R: Wait, G: Gate>(
     rt: &R,
     worker: u32,
@@ -72,14 +81,13 @@ fn run_workers<K: Kind, R: Threads + Wait + Sync, G: Gate>(
     );
 }
 
-/// Runs the workers beside each other, and then marks the end of all of them.
-pub fn run_marked<K: Kind, R: Threads + Wait + Sync, G: Gate>(
+// The same, of a list of workers.
+fn run_all_workers<K: Kind, R: Threads + Wait + Sync, G: Gate>(
     rt: &R,
     packets: &[Packet],
     options: &Options,
     lanes: &[Lane],
     gate: &G,
-    mark: &AtomicU64,
     parts: &mut Vec<WorkerPart<K>>,
 )
     requires shape { IsShape options.now.shape }
@@ -90,5 +98,62 @@ pub fn run_marked<K: Kind, R: Threads + Wait + Sync, G: Gate>(
     ensures worked { HaveWorked K.stands K.rules options.now packets.now lanes.now parts.old.items parts.new.items }
 {
     run_workers(rt, packets, options, lanes, gate, parts.as_mut_slice());
-    mark.store(1, Ordering::SeqCst);
+}
+
+// Whether the aggregator begins before so many naps are over. It wakes the one that sleeps here.
+fn has_begun<R: Wait>(rt: &R, begun: &AtomicU64) -> bool {
+    for _ in 0..NAPS {
+        if begun.load(Ordering::SeqCst) != 0 {
+            return true;
+        }
+        begun.park_timeout(rt, 0, Duration::from_millis(NAP_MILLIS));
+    }
+    begun.load(Ordering::SeqCst) != 0
+}
+
+// Runs the workers, unless pushes wait for room and the aggregator, which makes it, doesn't begin.
+fn run_begun<K: Kind, R: Threads + Wait + Sync, G: Gate>(
+    rt: &R,
+    packets: &[Packet],
+    options: &Options,
+    lanes: &[Lane],
+    gate: &G,
+    begun: &AtomicU64,
+    crew: &mut Crew<K>,
+)
+    requires shape { IsShape options.now.shape }
+    requires few { length packets.now ≤ 16777216 }
+    requires lanes { length lanes.now ≤ 65536 }
+    requires len { length crew.old.workers.items ≡ length lanes.now }
+    requires ready { AreReady K.stands K.rules options.now packets.now lanes.now crew.old.workers.items }
+    ensures { IsCrewDone K.stands K.rules options.now packets.now lanes.now crew.old crew.new }
+{
+    crew.refused = false;
+    if options.full == Full::Wait && !has_begun(rt, begun) {
+        crew.refused = true;
+        return;
+    }
+    run_all_workers(rt, packets, options, lanes, gate, &mut crew.workers);
+}
+
+/// Runs the workers beside each other, and then marks the end of all of them, also where none
+/// started: the aggregator may come after them on the same thread.
+pub fn run_crew<K: Kind, R: Threads + Wait + Sync, G: Gate>(
+    rt: &R,
+    packets: &[Packet],
+    options: &Options,
+    lanes: &[Lane],
+    gate: &G,
+    marks: &Marks,
+    crew: &mut Crew<K>,
+)
+    requires shape { IsShape options.now.shape }
+    requires few { length packets.now ≤ 16777216 }
+    requires lanes { length lanes.now ≤ 65536 }
+    requires len { length crew.old.workers.items ≡ length lanes.now }
+    requires ready { AreReady K.stands K.rules options.now packets.now lanes.now crew.old.workers.items }
+    ensures { IsCrewDone K.stands K.rules options.now packets.now lanes.now crew.old crew.new }
+{
+    run_begun(rt, packets, options, lanes, gate, &marks.begun, crew);
+    marks.ended.store(1, Ordering::SeqCst);
 }

@@ -20,8 +20,8 @@ settle-requires-clause-ended g c κs within = record {
   keys_are = refl;
   lanes_are = refl;
   spare_is = refl;
-  worked = subst (λ (l : List LaneView). HaveWorked g.K.Kind.stands g.K.Kind.rules c.args.options.now c.args.packets.now l c.in_ok-keys.field-0.workers.items c.run_beside.new.workers.items)
-      c.as_slice-2.ensures c.run_beside.ensures.worked;
+  worked = subst (λ (l : List LaneView). HaveWorked g.K.Kind.stands g.K.Kind.rules c.args.options.now c.args.packets.now l c.in_ok-keys.field-0.workers.items c.in-Ok.workers.items)
+      c.as_slice-2.ensures c.in-Ok.ensures.worked;
   rested = subst (λ (l : List LaneView). IsRestDone g.K.Kind.rules c.in_ok-keys.field-0.keys.items l c.in_ok-keys.field-0.rest c.run_beside.new.rest) c.as_slice-2.ensures
       (subst (λ (ks : List FlowKey). IsRestDone g.K.Kind.rules ks c.as_slice-2.result.now c.in_ok-keys.field-0.rest c.run_beside.new.rest) c.as_slice.ensures c.run_beside.ensures.rest);
 }
