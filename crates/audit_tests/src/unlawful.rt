@@ -86,7 +86,7 @@ fn the_line_of_a_worker_or_of_a_refused_update_fails(rt: HostRuntime) -> Result<
         let Verdict::Unlawful { line, kept, lawful } = verdict else {
             return Err(Fail::from("lawful"));
         };
-        assert_eq!(rt; (line, kept.as_bytes(), lawful.as_bytes()), first);
+        assert!(rt; (line, kept.as_bytes(), lawful.as_bytes()) == first);
     }
     Ok(())
 }
@@ -135,7 +135,7 @@ fn the_line_of_an_answer_fails(rt: HostRuntime) -> Result<(), Fail> {
         let Verdict::Unlawful { line, kept, lawful } = verdict else {
             return Err(Fail::from("lawful"));
         };
-        assert_eq!(rt; (line, kept.as_bytes(), lawful.as_bytes()), first);
+        assert!(rt; (line, kept.as_bytes(), lawful.as_bytes()) == first);
     }
     Ok(())
 }
@@ -194,7 +194,7 @@ fn the_line_of_a_live_key_fails(rt: HostRuntime) -> Result<(), Fail> {
         let Verdict::Unlawful { line, kept, lawful } = verdict else {
             return Err(Fail::from("lawful"));
         };
-        assert_eq!(rt; (line, kept.as_bytes(), lawful.as_bytes()), first);
+        assert!(rt; (line, kept.as_bytes(), lawful.as_bytes()) == first);
     }
     Ok(())
 }
@@ -249,7 +249,7 @@ fn the_line_of_the_missed_fails(rt: HostRuntime) -> Result<(), Fail> {
         let Verdict::Unlawful { line, kept, lawful } = verdict else {
             return Err(Fail::from("lawful"));
         };
-        assert_eq!(rt; (line, kept.as_bytes(), lawful.as_bytes()), first);
+        assert!(rt; (line, kept.as_bytes(), lawful.as_bytes()) == first);
     }
     Ok(())
 }

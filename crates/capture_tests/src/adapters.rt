@@ -55,9 +55,9 @@ fn a_failing_read_is_no_end_of_input(rt: HostRuntime) -> Result<(), Fail> {
     let mut source = StdSource::new(Faltering { reads: 0 });
     let mut buf = [b'.'; 4];
     for want in [Ok(1), Err(Failed), Ok(0)] {
-        assert_eq!(rt; source.read(&mut buf), want);
+        assert!(rt; source.read(&mut buf) == want);
     }
-    assert_eq!(rt; buf, [b'a', b'.', b'.', b'.']);
+    assert!(rt; buf == [b'a', b'.', b'.', b'.']);
     Ok(())
 }
 
@@ -76,7 +76,7 @@ fn a_failing_write_or_flush_is_a_fault(rt: HostRuntime) -> Result<(), Fail> {
             flushes,
             most,
         });
-        assert_eq!(rt; sink.write(b"abc"), want);
+        assert!(rt; sink.write(b"abc") == want);
     }
     Ok(())
 }

@@ -77,14 +77,14 @@ fn packets_of_both_blocks(rt: HostRuntime) -> Result<(), Fail> {
         ],
     )?;
     for piece in [1, 2, 3, 5, 7, 29, 1000] {
-        assert_eq!(rt; read_all(rt.alloc(), 3, &input, piece)?, (3, 162, Ok(0)));
+        assert!(rt; read_all(rt.alloc(), 3, &input, piece)? == (3, 162, Ok(0)));
     }
     let big = joined(
         rt.alloc(),
         &[SB_BIG, IB_BIG, PB_BIG, &F1[..40], PB_BIG_TAIL],
     )?;
     for piece in [1, 3, 1000] {
-        assert_eq!(rt; read_all(rt.alloc(), 2, &big, piece)?, (1, 40, Ok(0)));
+        assert!(rt; read_all(rt.alloc(), 2, &big, piece)? == (1, 40, Ok(0)));
     }
     let both = joined(
         rt.alloc(),
@@ -101,9 +101,9 @@ fn packets_of_both_blocks(rt: HostRuntime) -> Result<(), Fail> {
             PB_BIG_TAIL,
         ],
     )?;
-    assert_eq!(rt; read_all(rt.alloc(), 5, &both, 11)?, (2, 94, Ok(0)));
+    assert!(rt; read_all(rt.alloc(), 5, &both, 11)? == (2, 94, Ok(0)));
     let cut = joined(rt.alloc(), &[SB, IB, EB_HEAD, &F1[..12]])?;
-    assert_eq!(rt; read_all(rt.alloc(), 3, &cut, 9)?, (0, 0, Ok(40)));
+    assert!(rt; read_all(rt.alloc(), 3, &cut, 9)? == (0, 0, Ok(40)));
     Ok(())
 }
 
@@ -256,7 +256,7 @@ fn refusals_stand_at_every_cut(rt: HostRuntime) -> Result<(), Fail> {
     for (first, second, third, limit, bad) in rows {
         let input = joined(rt.alloc(), &[first, second, third])?;
         for piece in 1..60 {
-            assert_eq!(rt; read_all(rt.alloc(), limit, &input, piece)?.2, Err(bad));
+            assert!(rt; read_all(rt.alloc(), limit, &input, piece)?.2 == Err(bad));
         }
     }
     Ok(())
@@ -283,7 +283,7 @@ fn the_fourth_block_of_a_sort_is_one_too_many(rt: HostRuntime) -> Result<(), Fai
     for (second, third, packets, end) in rows {
         let input = joined(rt.alloc(), &[SB, second, third])?;
         for piece in [1, 7, 1000] {
-            assert_eq!(rt; read_all(rt.alloc(), 3, &input, piece)?, (packets, 0, end));
+            assert!(rt; read_all(rt.alloc(), 3, &input, piece)? == (packets, 0, end));
         }
     }
     Ok(())
@@ -297,14 +297,14 @@ fn a_packet_is_not_lent_before_its_end(rt: HostRuntime) -> Result<(), Fail> {
         length: 88,
     };
     for piece in [1, 4, 50, 1000] {
-        assert_eq!(rt; read_all(rt.alloc(), 3, &input, piece)?, (0, 0, Err(bad)));
+        assert!(rt; read_all(rt.alloc(), 3, &input, piece)? == (0, 0, Err(bad)));
     }
-    assert_eq!(rt; input.len(), 136);
+    assert!(rt; input.len() == 136);
     let mut reader = NgReader::new(rt.alloc(), 3)?;
     assert!(rt; reader.take_at_front(&input[48..]).is_none());
-    assert_eq!(rt; reader.take(&input), Err(bad));
-    assert_eq!(rt; reader.take(SB), Err(bad));
-    assert_eq!(rt; reader.end(), Err(bad));
+    assert!(rt; reader.take(&input) == Err(bad));
+    assert!(rt; reader.take(SB) == Err(bad));
+    assert!(rt; reader.end() == Err(bad));
     Ok(())
 }
 
@@ -329,7 +329,7 @@ fn a_long_block_is_passed_over(rt: HostRuntime) -> Result<(), Fail> {
         ],
     )?;
     for piece in [4096, 100000, 1000000] {
-        assert_eq!(rt; read_all(rt.alloc(), 3, &input, piece)?, (1, 54, Ok(0)));
+        assert!(rt; read_all(rt.alloc(), 3, &input, piece)? == (1, 54, Ok(0)));
     }
     Ok(())
 }
@@ -351,11 +351,11 @@ fn a_whole_packet_is_lent_from_the_piece(rt: HostRuntime) -> Result<(), Fail> {
     assert!(rt; reader.take_at_front(SB).is_none());
     assert!(rt; reader.take(SB).is_ok());
     assert!(rt; reader.take(IB).is_ok());
-    assert_eq!(rt; input.len(), 169);
-    assert_eq!(rt; front_of(&mut reader, &input), Some((88, 54, true)));
-    assert_eq!(rt; front_of(&mut reader, &input[88..]), Some((72, 54, true)));
+    assert!(rt; input.len() == 169);
+    assert!(rt; front_of(&mut reader, &input) == Some((88, 54, true)));
+    assert!(rt; front_of(&mut reader, &input[88..]) == Some((72, 54, true)));
     assert!(rt; reader.take_at_front(&input[160..]).is_none());
-    assert_eq!(rt; reader.take(&input[160..]), Err(NgBad::TooMany));
+    assert!(rt; reader.take(&input[160..]) == Err(NgBad::TooMany));
     Ok(())
 }
 

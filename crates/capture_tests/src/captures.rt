@@ -136,14 +136,14 @@ fn captures_and_refusals(rt: HostRuntime) -> Result<(), Fail> {
     for (first, second, third, records, end) in rows {
         let input = joined(rt.alloc(), &[first, second, third])?;
         for piece in [1, 7, 1000000] {
-            assert_eq!(rt; read_all(rt.alloc(), 3, &input, piece)?, (records, end));
+            assert!(rt; read_all(rt.alloc(), 3, &input, piece)? == (records, end));
         }
     }
     let whole = joined(rt.alloc(), &[HL, REC])?;
-    assert_eq!(rt; whole.len(), 94);
+    assert!(rt; whole.len() == 94);
     for len in 24..94 {
         let cut = (len - 24) as u32;
-        assert_eq!(rt; read_all(rt.alloc(), 3, &whole[..len], 10)?, (0, Ok(cut)));
+        assert!(rt; read_all(rt.alloc(), 3, &whole[..len], 10)? == (0, Ok(cut)));
     }
     Ok(())
 }
@@ -151,25 +151,25 @@ fn captures_and_refusals(rt: HostRuntime) -> Result<(), Fail> {
 #[test]
 fn frames_are_lent_and_a_refusal_is_kept(rt: HostRuntime) -> Result<(), Fail> {
     let mut reader = Reader::new(rt.alloc(), 2)?;
-    assert_eq!(rt; reader.take(HL).is_ok(), true);
+    assert!(rt; reader.take(HL).is_ok() == true);
     for _ in 0..2 {
         let taken = reader.take(&ZEROS[..16])?;
         assert!(rt; taken.whole);
-        assert_eq!(rt; reader.lent().bytes.len(), 0);
+        assert!(rt; reader.lent().bytes.len() == 0);
     }
-    assert_eq!(rt; reader.take(TOO_LONG), Err(Bad::TooMany));
-    assert_eq!(rt; reader.take(&ZEROS[..16]), Err(Bad::TooMany));
-    assert_eq!(rt; reader.end(), Err(Bad::TooMany));
+    assert!(rt; reader.take(TOO_LONG) == Err(Bad::TooMany));
+    assert!(rt; reader.take(&ZEROS[..16]) == Err(Bad::TooMany));
+    assert!(rt; reader.end() == Err(Bad::TooMany));
     let mut other = Reader::new(rt.alloc(), 1)?;
     let input = joined(rt.alloc(), &[HB, REC_BIG, LONGEST])?;
-    assert_eq!(rt; input.len(), 110);
+    assert!(rt; input.len() == 110);
     let taken = other.take(&input)?;
     assert!(rt; taken.whole);
-    assert_eq!(rt; taken.used, 94);
+    assert!(rt; taken.used == 94);
     let frame = other.lent();
-    assert_eq!(rt; frame.original, 54);
-    assert_eq!(rt; frame.bytes, &REC[16..]);
-    assert_eq!(rt; other.take(&input[94..]), Err(Bad::TooMany));
+    assert!(rt; frame.original == 54);
+    assert!(rt; frame.bytes == &REC[16..]);
+    assert!(rt; other.take(&input[94..]) == Err(Bad::TooMany));
     Ok(())
 }
 
@@ -183,15 +183,15 @@ fn a_whole_record_is_lent_from_the_piece(rt: HostRuntime) -> Result<(), Fail> {
     match reader.take_at_front(&input) {
         Some(front) => {
             let frame = front.frame;
-            assert_eq!(rt; front.used, 70);
-            assert_eq!(rt; frame.original, 54);
-            assert_eq!(rt; frame.bytes, &REC[16..]);
+            assert!(rt; front.used == 70);
+            assert!(rt; frame.original == 54);
+            assert!(rt; frame.bytes == &REC[16..]);
         }
         None => assert!(rt; false),
     }
     assert!(rt; reader.take(&REC[..9]).is_ok());
     assert!(rt; reader.take_at_front(REC).is_none());
-    assert_eq!(rt; reader.end(), Ok(9));
+    assert!(rt; reader.end() == Ok(9));
     Ok(())
 }
 

@@ -18,12 +18,12 @@ fn a_source_gives_pieces_and_fails_where_told(rt: HostRuntime) -> Result<(), Fai
     ];
     let mut buf = [b'.'; 5];
     for (want, first, sure_count) in rows {
-        assert_eq!(rt; source.read(&mut buf), want);
-        assert_eq!(rt; buf[0], first);
+        assert!(rt; source.read(&mut buf) == want);
+        assert!(rt; buf[0] == first);
         let mut other = [b'.'; 5];
-        assert_eq!(rt; sure.read(&mut other), Ok(sure_count));
+        assert!(rt; sure.read(&mut other) == Ok(sure_count));
     }
-    assert_eq!(rt; source.calls(), 6);
+    assert!(rt; source.calls() == 6);
     Ok(())
 }
 
@@ -39,15 +39,15 @@ fn a_sink_fails_at_full_room_and_where_told(rt: HostRuntime) -> Result<(), Fail>
     ];
     for (room, failing, held, whole) in rows {
         let mut sink = MemSink::in_pieces(rt.alloc(), room, 3, failing)?;
-        assert_eq!(rt; write_all(&mut sink, b"abcdefgh").is_ok(), whole);
-        assert_eq!(rt; sink.held(), held);
+        assert!(rt; write_all(&mut sink, b"abcdefgh").is_ok() == whole);
+        assert!(rt; sink.held() == held);
     }
     let mut sink = MemSink::new(rt.alloc(), 5, &[2])?;
-    assert_eq!(rt; sink.write(b"abc"), Ok(3));
-    assert_eq!(rt; sink.write(b"defgh"), Ok(2));
-    assert_eq!(rt; write_all(&mut sink, b"").is_ok(), true);
-    assert_eq!(rt; sink.write(b"fgh"), Err(Failed));
-    assert_eq!(rt; sink.held(), b"abcde".as_slice());
+    assert!(rt; sink.write(b"abc") == Ok(3));
+    assert!(rt; sink.write(b"defgh") == Ok(2));
+    assert!(rt; write_all(&mut sink, b"").is_ok() == true);
+    assert!(rt; sink.write(b"fgh") == Err(Failed));
+    assert!(rt; sink.held() == b"abcde".as_slice());
     Ok(())
 }
 
@@ -55,25 +55,25 @@ fn a_sink_fails_at_full_room_and_where_told(rt: HostRuntime) -> Result<(), Fail>
 fn the_adapters_pass_bytes_on(rt: HostRuntime) -> Result<(), Fail> {
     let mut source = StdSource::new(b"abc".as_slice());
     let mut buf = [b'.'; 2];
-    assert_eq!(rt; source.read(&mut buf), Ok(2));
-    assert_eq!(rt; buf, *b"ab");
-    assert_eq!(rt; source.read(&mut buf), Ok(1));
-    assert_eq!(rt; source.read(&mut buf), Ok(0));
+    assert!(rt; source.read(&mut buf) == Ok(2));
+    assert!(rt; buf == *b"ab");
+    assert!(rt; source.read(&mut buf) == Ok(1));
+    assert!(rt; source.read(&mut buf) == Ok(0));
     let mut room = [b'.'; 4];
     let mut sink = StdSink::new(room.as_mut_slice());
-    assert_eq!(rt; write_all(&mut sink, b"abc").is_ok(), true);
-    assert_eq!(rt; write_all(&mut sink, b"de").is_ok(), false);
+    assert!(rt; write_all(&mut sink, b"abc").is_ok() == true);
+    assert!(rt; write_all(&mut sink, b"de").is_ok() == false);
     drop(sink);
-    assert_eq!(rt; room, *b"abcd");
+    assert!(rt; room == *b"abcd");
     Ok(())
 }
 
 #[test]
 fn bytes_are_counted(rt: HostRuntime) {
     let mut sink = CountSink::new();
-    assert_eq!(rt; write_all(&mut sink, b"abc").is_ok(), true);
-    assert_eq!(rt; write_all(&mut sink, b"de").is_ok(), true);
-    assert_eq!(rt; sink.bytes(), 5);
+    assert!(rt; write_all(&mut sink, b"abc").is_ok() == true);
+    assert!(rt; write_all(&mut sink, b"de").is_ok() == true);
+    assert!(rt; sink.bytes() == 5);
 }
 
 #[test]
@@ -89,6 +89,6 @@ fn a_status_has_its_number(rt: HostRuntime) {
         Status::Differs,
     ];
     for (number, status) in all.iter().enumerate() {
-        assert_eq!(rt; usize::from(status.code()), number);
+        assert!(rt; usize::from(status.code()) == number);
     }
 }

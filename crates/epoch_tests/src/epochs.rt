@@ -117,20 +117,18 @@ fn a_change_of_212_reaches_212(rt: HostRuntime) -> Result<(), Fail> {
     let packets = [packet_of(ODD); 300];
     let options = options_for(rt.alloc(), 1, Mode::Rounds)?;
     let epochs = epochs_rounds(&rt, rt.alloc(), &packets, 256, 212, &options)?;
-    assert_eq!(rt;
-        numbers_of(&epochs),
-        [(256, 256, 1, 0), (44, 44, 0, 1), (0, 0, 0, 0), (0, 0, 0, 0)]
+    assert!(rt;
+        numbers_of(&epochs) == [(256, 256, 1, 0), (44, 44, 0, 1), (0, 0, 0, 0), (0, 0, 0, 0)]
     );
-    assert_eq!(rt; used_of(&epochs), [1, 1, 0, 0]);
-    assert_eq!(rt; flows_of(&epochs, 0), HEAVY.as_slice());
-    assert_eq!(rt; changes_of(&epochs, 1), LESS.as_slice());
-    assert_eq!(rt; epochs.whole.estimate(&ODD), 300);
+    assert!(rt; used_of(&epochs) == [1, 1, 0, 0]);
+    assert!(rt; flows_of(&epochs, 0) == HEAVY.as_slice());
+    assert!(rt; changes_of(&epochs, 1) == LESS.as_slice());
+    assert!(rt; epochs.whole.estimate(&ODD) == 300);
     let none = epochs_rounds(&rt, rt.alloc(), &packets, 256, 213, &options)?;
-    assert_eq!(rt;
-        numbers_of(&none),
-        [(256, 256, 1, 0), (44, 44, 0, 0), (0, 0, 0, 0), (0, 0, 0, 0)]
+    assert!(rt;
+        numbers_of(&none) == [(256, 256, 1, 0), (44, 44, 0, 0), (0, 0, 0, 0), (0, 0, 0, 0)]
     );
-    assert_eq!(rt; changes_of(&none, 1).len(), 0);
+    assert!(rt; changes_of(&none, 1).len() == 0);
     Ok(())
 }
 
@@ -139,14 +137,13 @@ fn threads_come_to_the_same(rt: HostRuntime) -> Result<(), Fail> {
     let packets = [packet_of(ODD); 300];
     let options = options_for(rt.alloc(), 1, Mode::Threads)?;
     let epochs = epochs_threads(&rt, rt.alloc(), &packets, 256, 212, &options, &OpenGate)?;
-    assert_eq!(rt;
-        numbers_of(&epochs),
-        [(256, 256, 1, 0), (44, 44, 0, 1), (0, 0, 0, 0), (0, 0, 0, 0)]
+    assert!(rt;
+        numbers_of(&epochs) == [(256, 256, 1, 0), (44, 44, 0, 1), (0, 0, 0, 0), (0, 0, 0, 0)]
     );
-    assert_eq!(rt; used_of(&epochs), [1, 1, 0, 0]);
-    assert_eq!(rt; flows_of(&epochs, 0), HEAVY.as_slice());
-    assert_eq!(rt; changes_of(&epochs, 1), LESS.as_slice());
-    assert_eq!(rt; epochs.whole.estimate(&ODD), 300);
+    assert!(rt; used_of(&epochs) == [1, 1, 0, 0]);
+    assert!(rt; flows_of(&epochs, 0) == HEAVY.as_slice());
+    assert!(rt; changes_of(&epochs, 1) == LESS.as_slice());
+    assert!(rt; epochs.whole.estimate(&ODD) == 300);
     Ok(())
 }
 
@@ -159,16 +156,16 @@ fn nothing_of_an_epoch_stands_in_the_next(rt: HostRuntime) -> Result<(), Fail> {
     }
     let options = options_for(rt.alloc(), 2, Mode::Rounds)?;
     let epochs = epochs_rounds(&rt, rt.alloc(), &packets, 256, 1, &options)?;
-    assert_eq!(rt;
-        numbers_of(&epochs),
-        [
-            (256, 256, 1, 0),
-            (256, 256, 1, 2),
-            (256, 256, 1, 2),
-            (0, 0, 0, 0)
-        ]
+    assert!(rt;
+        numbers_of(&epochs)
+            == [
+                (256, 256, 1, 0),
+                (256, 256, 1, 2),
+                (256, 256, 1, 2),
+                (0, 0, 0, 0)
+            ]
     );
-    assert_eq!(rt; used_of(&epochs), [1, 1, 1, 0]);
+    assert!(rt; used_of(&epochs) == [1, 1, 1, 0]);
     let gone = Change {
         key: EVEN,
         before: 256,
@@ -179,9 +176,9 @@ fn nothing_of_an_epoch_stands_in_the_next(rt: HostRuntime) -> Result<(), Fail> {
         before: 0,
         after: 256,
     };
-    assert_eq!(rt; changes_of(&epochs, 1), [gone, come].as_slice());
-    assert_eq!(rt; epochs.whole.estimate(&EVEN), 512);
-    assert_eq!(rt; epochs.whole.estimate(&ODD), 256);
+    assert!(rt; changes_of(&epochs, 1) == [gone, come].as_slice());
+    assert!(rt; epochs.whole.estimate(&EVEN) == 512);
+    assert!(rt; epochs.whole.estimate(&ODD) == 256);
     Ok(())
 }
 
@@ -189,7 +186,7 @@ fn nothing_of_an_epoch_stands_in_the_next(rt: HostRuntime) -> Result<(), Fail> {
 fn no_packet_makes_no_epoch(rt: HostRuntime) -> Result<(), Fail> {
     let options = options_for(rt.alloc(), 1, Mode::Rounds)?;
     let epochs = epochs_rounds(&rt, rt.alloc(), &[], 256, 1, &options)?;
-    assert_eq!(rt; epochs.epochs.len(), 0);
-    assert_eq!(rt; epochs.whole.used(0), 0);
+    assert!(rt; epochs.epochs.len() == 0);
+    assert!(rt; epochs.whole.used(0) == 0);
     Ok(())
 }

@@ -73,30 +73,28 @@ fn a_journal_is_read_up_to_its_end(rt: HostRuntime) -> Result<(), Fail> {
         let Ok(journal) = read else {
             return Err(Fail::from("no journal"));
         };
-        assert_eq!(rt; left, 3);
-        assert_eq!(rt; journal.options.round, 4);
-        assert_eq!(rt; journal.options.watch.len(), 1);
-        assert_eq!(rt; journal.lists.pushes.as_slice(), [2].as_slice());
-        assert_eq!(rt;
+        assert!(rt; left == 3);
+        assert!(rt; journal.options.round == 4);
+        assert!(rt; journal.options.watch.len() == 1);
+        assert!(rt; journal.lists.pushes.as_slice() == [2].as_slice());
+        assert!(rt;
             (
                 journal.lists.answers.len(),
                 journal.lists.live.len(),
                 journal.lists.missed
-            ),
-            (3, 1, 0)
+            ) == (3, 1, 0)
         );
         for bits in journal.lists.refused.as_slice() {
-            assert_eq!(rt; (bits.len(), bits.count()), (1 << 27, 4));
-            assert_eq!(rt; places(bits), Some((1, 5)));
+            assert!(rt; (bits.len(), bits.count()) == (1 << 27, 4));
+            assert!(rt; places(bits) == Some((1, 5)));
         }
         for answer in journal.lists.answers.as_slice().iter().skip(1) {
-            assert_eq!(rt;
+            assert!(rt;
                 (
                     answer.front.as_slice(),
                     answer.upto.as_slice(),
                     answer.shown.as_slice()
-                ),
-                ([2].as_slice(), [0].as_slice(), [5].as_slice())
+                ) == ([2].as_slice(), [0].as_slice(), [5].as_slice())
             );
         }
     }
@@ -135,7 +133,7 @@ fn the_first_bad_line_is_told(rt: HostRuntime) -> Result<(), Fail> {
     ] {
         let text = text_with(rt.alloc(), line, text)?;
         let (read, _) = read(rt.alloc(), &text, 100, &[])?;
-        assert_eq!(rt; stop_of(read), Some(JournalStop::BadJournal { line }));
+        assert!(rt; stop_of(read) == Some(JournalStop::BadJournal { line }));
     }
     Ok(())
 }
@@ -150,7 +148,7 @@ fn what_stands_first_decides(rt: HostRuntime) -> Result<(), Fail> {
         (13, JournalStop::BadJournal { line: 3 }),
     ] {
         let (read, _) = read(rt.alloc(), &text, 100, &[failing])?;
-        assert_eq!(rt; stop_of(read), Some(stop));
+        assert!(rt; stop_of(read) == Some(stop));
     }
     Ok(())
 }
@@ -173,11 +171,8 @@ fn a_run_may_have_all_updates(rt: HostRuntime) -> Result<(), Fail> {
         return Err(Fail::from("no journal"));
     };
     for bits in journal.lists.refused.as_slice() {
-        assert_eq!(rt; bits.count(), 1 << 27);
+        assert!(rt; bits.count() == 1 << 27);
     }
-    assert_eq!(rt;
-        (journal.lists.live.len(), journal.lists.missed),
-        (0, u64::MAX)
-    );
+    assert!(rt; (journal.lists.live.len(), journal.lists.missed) == (0, u64::MAX));
     Ok(())
 }

@@ -16,7 +16,7 @@ fn the_first_and_the_last_line_are_words(rt: HostRuntime) {
         (b"end \n", false, false),
         (b"", false, false),
     ] {
-        assert_eq!(rt; (is_head(line), is_end(line)), (head, end));
+        assert!(rt; (is_head(line), is_end(line)) == (head, end));
     }
 }
 
@@ -39,7 +39,7 @@ fn workers_and_runs_have_plain_numbers(rt: HostRuntime) {
         (b"", None),
     ] {
         let read = read_worker(line);
-        assert_eq!(rt; read.map(|w| (w.worker, w.pushes, w.refused)), said);
+        assert!(rt; read.map(|w| (w.worker, w.pushes, w.refused)) == said);
     }
     for (line, said) in [
         (b"refused 0 1-3\n".as_slice(), Some((0, 1, 3))),
@@ -50,7 +50,7 @@ fn workers_and_runs_have_plain_numbers(rt: HostRuntime) {
         (b"refused 0 1-3", None),
     ] {
         let read = read_run(line);
-        assert_eq!(rt; read.map(|r| (r.worker, r.first, r.last)), said);
+        assert!(rt; read.map(|r| (r.worker, r.first, r.last)) == said);
     }
 }
 
@@ -72,7 +72,7 @@ fn keys_and_the_missed_are_spelt_as_they_are_written(rt: HostRuntime) {
         (b"live", None),
         (b"", None),
     ] {
-        assert_eq!(rt; read_key(line, b"live"), live);
+        assert!(rt; read_key(line, b"live") == live);
     }
     for (line, missed) in [
         (b"missed 0\n".as_slice(), Some(0)),
@@ -81,7 +81,7 @@ fn keys_and_the_missed_are_spelt_as_they_are_written(rt: HostRuntime) {
         (b"missed -1\n", None),
         (b"missed\n", None),
     ] {
-        assert_eq!(rt; read_missed(line), missed);
+        assert!(rt; read_missed(line) == missed);
     }
 }
 
@@ -97,9 +97,8 @@ fn the_options_are_lawful(rt: HostRuntime) -> Result<(), Fail> {
             (o.heavy, o.least, o.watch.room()),
         )
     });
-    assert_eq!(rt;
-        said,
-        Some((
+    assert!(rt;
+        said == Some((
             (Sketch::CountMin, Share::Turn, Mode::Rounds),
             (32, 4, 3),
             (64, 5, 16)
@@ -145,7 +144,7 @@ fn answers_are_those_that_are_asked_for(rt: HostRuntime) -> Result<(), Fail> {
         (b"", false),
     ] {
         let mut answer = Answer::new(rt.alloc(), 0, 1, 2, 1)?;
-        assert_eq!(rt; read_answer(line, &mut answer), yes);
+        assert!(rt; read_answer(line, &mut answer) == yes);
     }
     Ok(())
 }

@@ -194,7 +194,7 @@ fn a_failing_read_leaves_nothing_on_the_output(rt: HostRuntime) -> Result<(), Fa
             count = count.saturating_add(1);
         }
     }
-    assert_eq!(rt; count, COUNT);
+    assert!(rt; count == COUNT);
     Ok(())
 }
 
@@ -207,7 +207,7 @@ fn a_failing_write_leaves_the_lines_before_it(rt: HostRuntime) -> Result<(), Fai
             count = count.saturating_add(1);
         }
     }
-    assert_eq!(rt; count, COUNT);
+    assert!(rt; count == COUNT);
     Ok(())
 }
 
@@ -231,13 +231,13 @@ fn fill_rooms_of<R: Threads + Wait + Sync + Abort>(
 
 #[test]
 fn a_small_output_holds_a_front_of_a_run(rt: HostRuntime) -> Result<(), Fail> {
-    assert_eq!(rt; fill_rooms_of(&rt, rt.alloc(), true)?, 4);
+    assert!(rt; fill_rooms_of(&rt, rt.alloc(), true)? == 4);
     Ok(())
 }
 
 #[test]
 fn a_small_output_holds_a_front_of_another_text(rt: HostRuntime) -> Result<(), Fail> {
-    assert_eq!(rt; fill_rooms_of(&rt, rt.alloc(), false)?, 5);
+    assert!(rt; fill_rooms_of(&rt, rt.alloc(), false)? == 5);
     Ok(())
 }
 
@@ -250,6 +250,6 @@ fn a_line_that_cannot_be_written_changes_nothing_else(rt: HostRuntime) -> Result
             count = count.saturating_add(1);
         }
     }
-    assert_eq!(rt; count, COUNT);
+    assert!(rt; count == COUNT);
     Ok(())
 }

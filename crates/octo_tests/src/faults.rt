@@ -48,20 +48,11 @@ fn end_of_reads<R: Threads + Wait + Sync>(
 fn a_failing_read_ends_the_run(rt: HostRuntime) -> Result<(), Fail> {
     let alloc = rt.alloc();
     for call in 0..15 {
-        assert_eq!(rt;
-            end_of_reads(&rt, alloc, "LH tcp", 7, call)?,
-            (Status::ReadFault, 0)
-        );
+        assert!(rt; end_of_reads(&rt, alloc, "LH tcp", 7, call)? == (Status::ReadFault, 0));
     }
-    assert_eq!(rt; end_of_reads(&rt, alloc, "LH tcp", 7, 15)?.0, Status::Done);
-    assert_eq!(rt;
-        end_of_reads(&rt, alloc, "1f8b0800", 1, 3)?.0,
-        Status::ReadFault
-    );
-    assert_eq!(rt;
-        end_of_reads(&rt, alloc, "1f8b0800", 1, 4)?.0,
-        Status::BadCapture
-    );
+    assert!(rt; end_of_reads(&rt, alloc, "LH tcp", 7, 15)?.0 == Status::Done);
+    assert!(rt; end_of_reads(&rt, alloc, "1f8b0800", 1, 3)?.0 == Status::ReadFault);
+    assert!(rt; end_of_reads(&rt, alloc, "1f8b0800", 1, 4)?.0 == Status::BadCapture);
     Ok(())
 }
 
@@ -124,7 +115,7 @@ fn a_small_output_holds_a_front_of_the_report(rt: HostRuntime) -> Result<(), Fai
         (bytewise, whole.out.held().len()),
     ] {
         let end = run(&rt, alloc, WORDS, "LH tcp", ways)?;
-        assert_eq!(rt; end.out.held().len(), held);
+        assert!(rt; end.out.held().len() == held);
         assert!(rt; whole.out.held().starts_with(end.out.held()));
         assert!(rt; (end.status == Status::Done) == (held > 30));
     }
@@ -139,10 +130,7 @@ fn a_fault_of_the_error_output_changes_nothing_else(rt: HostRuntime) -> Result<(
         ..SMOOTH
     };
     let cut = run(&rt, rt.alloc(), WORDS, "LH tcp", untold)?;
-    assert_eq!(rt;
-        (cut.status, cut.out.held().len()),
-        (Status::WriteFault, 20)
-    );
+    assert!(rt; (cut.status, cut.out.held().len()) == (Status::WriteFault, 20));
     assert!(rt; cut.err.held().is_empty());
     let unread = Ways {
         failing_reads: &[0],
@@ -150,7 +138,7 @@ fn a_fault_of_the_error_output_changes_nothing_else(rt: HostRuntime) -> Result<(
         ..SMOOTH
     };
     let end = run(&rt, rt.alloc(), WORDS, "LH tcp", unread)?;
-    assert_eq!(rt; (end.status, end.out.held().len()), (Status::ReadFault, 0));
+    assert!(rt; (end.status, end.out.held().len()) == (Status::ReadFault, 0));
     Ok(())
 }
 
@@ -209,7 +197,7 @@ fn an_audit_whose_fault_is_not_told_ends_the_same(rt: HostRuntime) -> Result<(),
             ..failing(reads, writes)
         };
         let end = audit(&rt, rt.alloc(), JOURNAL, "LH 6*tcp", untold)?;
-        assert_eq!(rt; (end.status, end.out.held().len()), (status, count));
+        assert!(rt; (end.status, end.out.held().len()) == (status, count));
         assert!(rt; LAWFUL.starts_with(end.out.held()));
         assert!(rt; end.err.held().is_empty());
     }

@@ -332,19 +332,19 @@ fn judge_each<R: Threads + Wait + Sync + Abort>(
 
 #[test]
 fn lying_libpcap_captures_are_judged(rt: HostRuntime) -> Result<(), Fail> {
-    assert_eq!(rt; judge_each(&rt, rt.alloc(), "run", LIBPCAP)?, 40);
+    assert!(rt; judge_each(&rt, rt.alloc(), "run", LIBPCAP)? == 40);
     Ok(())
 }
 
 #[test]
 fn lying_pcapng_captures_are_judged(rt: HostRuntime) -> Result<(), Fail> {
-    assert_eq!(rt; judge_each(&rt, rt.alloc(), "run", PCAPNG)?, 89);
+    assert!(rt; judge_each(&rt, rt.alloc(), "run", PCAPNG)? == 89);
     Ok(())
 }
 
 #[test]
 fn a_long_line_is_none_of_a_journal(rt: HostRuntime) -> Result<(), Fail> {
-    assert_eq!(rt; judge_each(&rt, rt.alloc(), "audit", LONG_LINES)?, 13);
+    assert!(rt; judge_each(&rt, rt.alloc(), "audit", LONG_LINES)? == 13);
     Ok(())
 }
 
@@ -378,6 +378,6 @@ fn lying_journals_are_judged(rt: HostRuntime) -> Result<(), Fail> {
             count = count.saturating_add(1);
         }
     }
-    assert_eq!(rt; count, 96);
+    assert!(rt; count == 96);
     Ok(())
 }

@@ -55,7 +55,7 @@ end
 #[test]
 fn no_schedule_changes_these_journals(rt: HostRuntime) -> Result<(), Fail> {
     for _ in 0..20 {
-        assert_eq!(rt; run_cases(&rt, rt.alloc(), UNREFUSED)?, 2);
+        assert!(rt; run_cases(&rt, rt.alloc(), UNREFUSED)? == 2);
     }
     Ok(())
 }
@@ -68,7 +68,7 @@ fn have_one_report<R: Threads + Wait + Sync + Abort>(
 ) -> Result<(), Fail> {
     let line = "load --records 65536 --start 7 --workers 4 --readers 2 --asks 100";
     let first = run(rt, alloc, line, "", SMOOTH)?;
-    assert_eq!(rt; first.status, Status::Done);
+    assert!(rt; first.status == Status::Done);
     let words = format!(in alloc; "{line} --mode {mode}")?;
     for _ in 0..20 {
         let other = run(rt, alloc, words.as_str(), "", SMOOTH)?;

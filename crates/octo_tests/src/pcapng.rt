@@ -74,7 +74,7 @@ SB/27
 
 #[test]
 fn pcapng_captures_are_reported_and_refused(rt: HostRuntime) -> Result<(), Fail> {
-    assert_eq!(rt; run_cases(&rt, rt.alloc(), RUNS)?, 10);
+    assert!(rt; run_cases(&rt, rt.alloc(), RUNS)? == 10);
     Ok(())
 }
 

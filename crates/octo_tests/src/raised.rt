@@ -179,7 +179,7 @@ fn the_worked_journals_are_lawful(rt: HostRuntime) -> Result<(), Fail> {
             count = count.saturating_add(1);
         }
     }
-    assert_eq!(rt; count, 7);
+    assert!(rt; count == 7);
     Ok(())
 }
 
@@ -189,14 +189,14 @@ fn the_worked_journals_are_lawful(rt: HostRuntime) -> Result<(), Fail> {
 #[test]
 fn each_raised_number_is_told_where_updates_were_refused(rt: HostRuntime) -> Result<(), Fail> {
     let name = "a full lane leaves updates refused";
-    assert_eq!(rt; raise_each_of(&rt, rt.alloc(), name, 0, 1000)?, 37);
+    assert!(rt; raise_each_of(&rt, rt.alloc(), name, 0, 1000)? == 37);
     Ok(())
 }
 
 #[test]
 fn each_raised_number_is_told_where_pushes_wait(rt: HostRuntime) -> Result<(), Fail> {
     let name = "a push that waits is never refused";
-    assert_eq!(rt; raise_each_of(&rt, rt.alloc(), name, 0, 1000)?, 31);
+    assert!(rt; raise_each_of(&rt, rt.alloc(), name, 0, 1000)? == 31);
     Ok(())
 }
 
@@ -207,9 +207,8 @@ fn each_raised_number_is_told_in_each_sketch(rt: HostRuntime) -> Result<(), Fail
         ("a Count Sketch finds its live key", 16),
         ("registers answer how many keys there are", 10),
     ] {
-        assert_eq!(rt;
-            raise_each_of(&rt, rt.alloc(), name, 0, 1000)?,
-            count,
+        assert!(rt;
+            raise_each_of(&rt, rt.alloc(), name, 0, 1000)? == count,
             "{name}"
         );
     }
@@ -219,7 +218,7 @@ fn each_raised_number_is_told_in_each_sketch(rt: HostRuntime) -> Result<(), Fail
 #[test]
 fn each_raised_number_is_told_among_four_workers(rt: HostRuntime) -> Result<(), Fail> {
     let name = "defaults leave residues of ten";
-    assert_eq!(rt; raise_each_of(&rt, rt.alloc(), name, 0, 1000)?, 46);
+    assert!(rt; raise_each_of(&rt, rt.alloc(), name, 0, 1000)? == 46);
     Ok(())
 }
 
@@ -229,18 +228,18 @@ const SIXTEEN: &str = "idle workers push nothing";
 
 #[test]
 fn each_raised_number_is_told_of_the_first_workers(rt: HostRuntime) -> Result<(), Fail> {
-    assert_eq!(rt; raise_each_of(&rt, rt.alloc(), SIXTEEN, 0, 47)?, 25);
+    assert!(rt; raise_each_of(&rt, rt.alloc(), SIXTEEN, 0, 47)? == 25);
     Ok(())
 }
 
 #[test]
 fn each_raised_number_is_told_of_the_other_workers(rt: HostRuntime) -> Result<(), Fail> {
-    assert_eq!(rt; raise_each_of(&rt, rt.alloc(), SIXTEEN, 47, 71)?, 24);
+    assert!(rt; raise_each_of(&rt, rt.alloc(), SIXTEEN, 47, 71)? == 24);
     Ok(())
 }
 
 #[test]
 fn each_raised_number_is_told_of_an_answer(rt: HostRuntime) -> Result<(), Fail> {
-    assert_eq!(rt; raise_each_of(&rt, rt.alloc(), SIXTEEN, 71, 1000)?, 21);
+    assert!(rt; raise_each_of(&rt, rt.alloc(), SIXTEEN, 71, 1000)? == 21);
     Ok(())
 }

@@ -52,7 +52,7 @@ LH 0000000000000000 ffffffff 00000000
 
 #[test]
 fn each_refusal_has_its_line(rt: HostRuntime) -> Result<(), Fail> {
-    assert_eq!(rt; run_cases(&rt, rt.alloc(), REFUSALS)?, 11);
+    assert!(rt; run_cases(&rt, rt.alloc(), REFUSALS)? == 11);
     Ok(())
 }
 

@@ -197,6 +197,6 @@ end
 
 #[test]
 fn runs_in_rounds_have_their_journals(rt: HostRuntime) -> Result<(), Fail> {
-    assert_eq!(rt; run_cases(&rt, rt.alloc(), JOURNALS)?, 7);
+    assert!(rt; run_cases(&rt, rt.alloc(), JOURNALS)? == 7);
     Ok(())
 }

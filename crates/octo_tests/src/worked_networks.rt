@@ -146,7 +146,7 @@ LH
 
 #[test]
 fn networks_of_worked_captures(rt: HostRuntime) -> Result<(), Fail> {
-    assert_eq!(rt; run_cases(&rt, rt.alloc(), NETWORKS)?, 7);
+    assert!(rt; run_cases(&rt, rt.alloc(), NETWORKS)? == 7);
     Ok(())
 }
 

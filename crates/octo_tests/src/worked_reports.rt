@@ -337,6 +337,6 @@ end
 
 #[test]
 fn captures_are_reported(rt: HostRuntime) -> Result<(), Fail> {
-    assert_eq!(rt; run_cases(&rt, rt.alloc(), REPORTS)?, 20);
+    assert!(rt; run_cases(&rt, rt.alloc(), REPORTS)? == 20);
     Ok(())
 }

@@ -100,7 +100,7 @@ fn expect_replies<K: Kind, R: Abort>(rt: &R, lag: &mut Lag<K>, table: &[(Event, 
             Event::Publish => lag.step(Event::Publish),
             Event::Ask(_) => lag.step(Event::Ask(0)),
         };
-        assert_eq!(rt; reply, *wanted);
+        assert!(rt; reply == *wanted);
     }
 }
 
@@ -122,15 +122,15 @@ fn expect_look<K: Kind, R: Abort>(rt: &R, lag: &Lag<K>, key: &FlowKey, look: &Lo
     requires readers { 0 < length lag.now.seen }
     requires shape { size_of lag.now.shape ≡ 2 }
 {
-    assert_eq!(rt; (lag.shown(0), lag.shown(1)), look.shown);
-    assert_eq!(rt; lag.estimate(key), look.estimate);
-    assert_eq!(rt; lag.front(0), look.front);
-    assert_eq!(rt; lag.upto(0), look.upto);
-    assert_eq!(rt; lag.seen(0, 0), look.seen);
-    assert_eq!(rt; lag.queued(0), look.queued);
-    assert_eq!(rt; (lag.residue(0, 0), lag.residue(0, 1)), look.residue);
-    assert_eq!(rt; lag.live_len(), look.live);
-    assert_eq!(rt; lag.missed(), 0);
+    assert!(rt; (lag.shown(0), lag.shown(1)) == look.shown);
+    assert!(rt; lag.estimate(key) == look.estimate);
+    assert!(rt; lag.front(0) == look.front);
+    assert!(rt; lag.upto(0) == look.upto);
+    assert!(rt; lag.seen(0, 0) == look.seen);
+    assert!(rt; lag.queued(0) == look.queued);
+    assert!(rt; (lag.residue(0, 0), lag.residue(0, 1)) == look.residue);
+    assert!(rt; lag.live_len() == look.live);
+    assert!(rt; lag.missed() == 0);
 }
 
 #[test]
@@ -163,8 +163,8 @@ fn a_full_lane_leaves_pushes_in_the_residue(rt: HostRuntime) -> Result<(), Fail>
         live: 1,
     };
     expect_look(&rt, &lag, &EVEN, &look);
-    assert_eq!(rt; lag.refused_at(0, 3), true);
-    assert_eq!(rt; lag.refused_at(0, 4), false);
+    assert!(rt; lag.refused_at(0, 3) == true);
+    assert!(rt; lag.refused_at(0, 4) == false);
     expect_replies(
         &rt,
         &mut lag,
@@ -188,9 +188,9 @@ fn a_full_lane_leaves_pushes_in_the_residue(rt: HostRuntime) -> Result<(), Fail>
     };
     expect_look(&rt, &lag, &EVEN, &look);
     if lag.live_len() > 0 {
-        assert_eq!(rt; lag.live(0), EVEN);
+        assert!(rt; lag.live(0) == EVEN);
     }
-    assert_eq!(rt; cell_of(&SHAPE, &EVEN, 0), 0);
+    assert!(rt; cell_of(&SHAPE, &EVEN, 0) == 0);
     Ok(())
 }
 
@@ -210,7 +210,7 @@ fn a_push_waits_for_room(rt: HostRuntime) -> Result<(), Fail> {
             (Event::Update(0), Reply::Pushed { amount: 1 }),
         ],
     );
-    assert_eq!(rt; lag.residue(0, 1), 0);
+    assert!(rt; lag.residue(0, 1) == 0);
     Ok(())
 }
 
@@ -245,7 +245,7 @@ fn a_count_sketch_tells_gaps_with_sign(rt: HostRuntime) -> Result<(), Fail> {
         live: 0,
     };
     expect_look(&rt, &lag, &ODD, &look);
-    assert_eq!(rt; lag.refused_at(0, 3), true);
+    assert!(rt; lag.refused_at(0, 3) == true);
     expect_replies(
         &rt,
         &mut lag,

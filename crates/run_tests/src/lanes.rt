@@ -41,15 +41,15 @@ fn a_full_lane_hands_the_message_back(rt: HostRuntime) -> Result<(), Fail> {
     let Ok((lane, mut sends, mut takes)) = Lane::new(&rt, rt.alloc(), 2) else {
         return Err(Fail::from("memory"));
     };
-    assert_eq!(rt; send(&rt, &lane, &mut sends, 0), Ok(()));
-    assert_eq!(rt; send(&rt, &lane, &mut sends, 1), Ok(()));
-    assert_eq!(rt; send(&rt, &lane, &mut sends, 2), Err(c));
-    assert_eq!(rt; sends.fulls(), 1);
-    assert_eq!(rt; lane.take(&rt, &mut takes), Some(a));
-    assert_eq!(rt; send(&rt, &lane, &mut sends, 2), Ok(()));
-    assert_eq!(rt; lane.take(&rt, &mut takes), Some(b));
-    assert_eq!(rt; lane.take(&rt, &mut takes), Some(c));
-    assert_eq!(rt; lane.take(&rt, &mut takes), None);
+    assert!(rt; send(&rt, &lane, &mut sends, 0) == Ok(()));
+    assert!(rt; send(&rt, &lane, &mut sends, 1) == Ok(()));
+    assert!(rt; send(&rt, &lane, &mut sends, 2) == Err(c));
+    assert!(rt; sends.fulls() == 1);
+    assert!(rt; lane.take(&rt, &mut takes) == Some(a));
+    assert!(rt; send(&rt, &lane, &mut sends, 2) == Ok(()));
+    assert!(rt; lane.take(&rt, &mut takes) == Some(b));
+    assert!(rt; lane.take(&rt, &mut takes) == Some(c));
+    assert!(rt; lane.take(&rt, &mut takes) == None);
     Ok(())
 }
 
@@ -59,13 +59,13 @@ fn what_is_left_is_drained(rt: HostRuntime) -> Result<(), Fail> {
     let Ok((lane, mut sends, mut takes)) = Lane::new(&rt, rt.alloc(), 2) else {
         return Err(Fail::from("memory"));
     };
-    assert_eq!(rt; send(&rt, &lane, &mut sends, 0), Ok(()));
-    assert_eq!(rt; send(&rt, &lane, &mut sends, 1), Ok(()));
-    assert_eq!(rt; lane.take(&rt, &mut takes), Some(a));
+    assert!(rt; send(&rt, &lane, &mut sends, 0) == Ok(()));
+    assert!(rt; send(&rt, &lane, &mut sends, 1) == Ok(()));
+    assert!(rt; lane.take(&rt, &mut takes) == Some(a));
     let mut both = lane.take_in(&rt, sends, takes);
-    assert_eq!(rt; lane.drain(&rt, &mut both), Some(b));
-    assert_eq!(rt; lane.drain(&rt, &mut both), None);
-    assert_eq!(rt; both.fulls(), 0);
+    assert!(rt; lane.drain(&rt, &mut both) == Some(b));
+    assert!(rt; lane.drain(&rt, &mut both) == None);
+    assert!(rt; both.fulls() == 0);
     Ok(())
 }
 
@@ -110,18 +110,18 @@ fn a_message_that_met_a_full_lane_is_sent_after_a_take(rt: HostRuntime) -> Resul
     let Ok((lane, mut sends, mut takes)) = Lane::new(&rt, rt.alloc(), 2) else {
         return Err(Fail::from("memory"));
     };
-    assert_eq!(rt; send(&rt, &lane, &mut sends, 0), Ok(()));
-    assert_eq!(rt; send(&rt, &lane, &mut sends, 1), Ok(()));
-    assert_eq!(rt; send(&rt, &lane, &mut sends, 2), Err(message(2)));
+    assert!(rt; send(&rt, &lane, &mut sends, 0) == Ok(()));
+    assert!(rt; send(&rt, &lane, &mut sends, 1) == Ok(()));
+    assert!(rt; send(&rt, &lane, &mut sends, 2) == Err(message(2)));
     let mut in_order = 0;
     join_mut(
         &rt,
         &mut || send_until(&rt, &lane, &mut sends, 50),
         &mut || in_order = take_until(&rt, &lane, &mut takes, 50),
     );
-    assert_eq!(rt; in_order, 50);
+    assert!(rt; in_order == 50);
     let mut both = lane.take_in(&rt, sends, takes);
-    assert_eq!(rt; lane.drain(&rt, &mut both), None);
+    assert!(rt; lane.drain(&rt, &mut both) == None);
     assert!(rt; both.fulls() >= 1, "the third message met a full lane");
     Ok(())
 }

@@ -9,9 +9,9 @@ use std::test::Fail;
 
 #[test]
 fn takes_the_lower_of_two_medians(rt: HostRuntime) {
-    assert_eq!(rt; lower_median(&mut [9, 2, -1, 5]), 2);
-    assert_eq!(rt; lower_median(&mut [4]), 4);
-    assert_eq!(rt; lower_median(&mut [3, i64::MIN, i64::MAX]), 3);
+    assert!(rt; lower_median(&mut [9, 2, -1, 5]) == 2);
+    assert!(rt; lower_median(&mut [4]) == 4);
+    assert!(rt; lower_median(&mut [3, i64::MIN, i64::MAX]) == 3);
 }
 
 #[test]
@@ -24,7 +24,7 @@ fn ranks_by_trailing_zeros(rt: HostRuntime) {
         (1 << 63, 128, 32),
         (6, 1, 2),
     ] {
-        assert_eq!(rt; rank(hash, columns), wanted);
+        assert!(rt; rank(hash, columns) == wanted);
     }
 }
 
@@ -49,7 +49,7 @@ fn estimates_by_registers(rt: HostRuntime) -> Result<(), Fail> {
     for (count, value, wanted) in [(128, 3, 732), (64, 1, 88)] {
         let mut table: Table<LogLog> = Table::new(rt.alloc(), shape)?;
         set_first(&mut table, count, value);
-        assert_eq!(rt; distinct(&table), wanted);
+        assert!(rt; distinct(&table) == wanted);
     }
     Ok(())
 }

@@ -13,15 +13,15 @@ const FIRST: FlowKey = FlowKey::V4 {
 
 #[test]
 fn hashes_known_bytes(rt: HostRuntime) {
-    assert_eq!(rt; fnv64(b""), 0xCBF29CE484222325);
-    assert_eq!(rt; fnv64(b"a"), 0xAF63DC4C8601EC8C);
-    assert_eq!(rt; fnv64(b"foobar"), 0x85944171F73967E8);
+    assert!(rt; fnv64(b"") == 0xCBF29CE484222325);
+    assert!(rt; fnv64(b"a") == 0xAF63DC4C8601EC8C);
+    assert!(rt; fnv64(b"foobar") == 0x85944171F73967E8);
     for (z, mixed) in [
         (0, 0),
         (0x9E3779B97F4A7C15, 0xE220A8397B1DCDAF),
         (0x3C6EF372FE94F82A, 0x6E789E6AA1B965F4),
     ] {
-        assert_eq!(rt; mix64(z), mixed);
+        assert!(rt; mix64(z) == mixed);
     }
 }
 
@@ -32,24 +32,21 @@ fn hashes_a_key_in_rows(rt: HostRuntime) {
         rows: 4,
         columns: 2048,
     };
-    assert_eq!(rt; row_hash(&FIRST, 0), 0xE27FBF7987133339);
-    assert_eq!(rt; row_hash(&FIRST, 63), 0x6A7B5A0ABE2DC173);
-    assert_eq!(rt; hash_in_row(key_hash(&FIRST), 2), 0x1BC0DEA3BADD6CA9);
-    assert_eq!(rt; cell_of(&shape, &FIRST, 0), 825);
-    assert_eq!(rt; cell_of(&shape, &FIRST, 3), 6672);
-    assert_eq!(rt; cell_in_row(&shape, 0xAAAB511C7FAB10A0, 1), 2208);
-    assert_eq!(rt; share_of(&FIRST, 4), 3);
+    assert!(rt; row_hash(&FIRST, 0) == 0xE27FBF7987133339);
+    assert!(rt; row_hash(&FIRST, 63) == 0x6A7B5A0ABE2DC173);
+    assert!(rt; hash_in_row(key_hash(&FIRST), 2) == 0x1BC0DEA3BADD6CA9);
+    assert!(rt; cell_of(&shape, &FIRST, 0) == 825);
+    assert!(rt; cell_of(&shape, &FIRST, 3) == 6672);
+    assert!(rt; cell_in_row(&shape, 0xAAAB511C7FAB10A0, 1) == 2208);
+    assert!(rt; share_of(&FIRST, 4) == 3);
 }
 
 #[test]
 fn sets_one_bit_of_three(rt: HostRuntime) -> Result<(), Fail> {
     let mut bits = Bits::new(rt.alloc(), 3)?;
     bits.set(1);
-    assert_eq!(rt;
-        (bits.get(0), bits.get(1), bits.get(2)),
-        (false, true, false)
-    );
-    assert_eq!(rt; bits.count(), 1);
+    assert!(rt; (bits.get(0), bits.get(1), bits.get(2)) == (false, true, false));
+    assert!(rt; bits.count() == 1);
     Ok(())
 }
 
@@ -61,9 +58,9 @@ fn sets_bits_on_both_sides_of_a_border(rt: HostRuntime) -> Result<(), Fail> {
     bits.set(64);
     bits.set(127);
     for place in 0..bits.len() {
-        assert_eq!(rt; bits.get(place), matches!(place, 0 | 63 | 64 | 127));
+        assert!(rt; bits.get(place) == matches!(place, 0 | 63 | 64 | 127));
     }
-    assert_eq!(rt; (bits.len(), bits.count()), (130, 4));
+    assert!(rt; (bits.len(), bits.count()) == (130, 4));
     Ok(())
 }
 
@@ -71,13 +68,13 @@ fn sets_bits_on_both_sides_of_a_border(rt: HostRuntime) -> Result<(), Fail> {
 fn sets_ranges_and_finds_the_next_bit(rt: HostRuntime) -> Result<(), Fail> {
     let mut bits = Bits::new(rt.alloc(), 200)?;
     bits.set_range(60, 130);
-    assert_eq!(rt; bits.len(), 200);
+    assert!(rt; bits.len() == 200);
     bits.set_range(199, 200);
-    assert_eq!(rt; bits.len(), 200);
+    assert!(rt; bits.len() == 200);
     bits.set_range(150, 150);
-    assert_eq!(rt; bits.len(), 200);
+    assert!(rt; bits.len() == 200);
     for place in 0..bits.len() {
-        assert_eq!(rt; bits.get(place), matches!(place, 60..130 | 199));
+        assert!(rt; bits.get(place) == matches!(place, 60..130 | 199));
     }
     for (start, next) in [
         (0, 60),
@@ -87,28 +84,28 @@ fn sets_ranges_and_finds_the_next_bit(rt: HostRuntime) -> Result<(), Fail> {
         (199, 199),
         (200, 200),
     ] {
-        assert_eq!(rt; bits.next(start), next);
+        assert!(rt; bits.next(start) == next);
     }
-    assert_eq!(rt; bits.count(), 71);
+    assert!(rt; bits.count() == 71);
     Ok(())
 }
 
 #[test]
 fn begins_an_answer(rt: HostRuntime) -> Result<(), Fail> {
     let answer = Answer::new(rt.alloc(), 1, 2, 3, 4)?;
-    assert_eq!(rt; (answer.reader, answer.number, answer.folded), (1, 2, 0));
-    assert_eq!(rt; answer.front.as_slice(), [0u64, 0, 0].as_slice());
-    assert_eq!(rt; answer.upto.as_slice(), [0u64, 0, 0].as_slice());
-    assert_eq!(rt; answer.shown.as_slice(), [0i64, 0, 0, 0].as_slice());
+    assert!(rt; (answer.reader, answer.number, answer.folded) == (1, 2, 0));
+    assert!(rt; answer.front.as_slice() == [0u64, 0, 0].as_slice());
+    assert!(rt; answer.upto.as_slice() == [0u64, 0, 0].as_slice());
+    assert!(rt; answer.shown.as_slice() == [0i64, 0, 0, 0].as_slice());
     Ok(())
 }
 
 #[test]
 fn keeps_the_gap_of_a_sum_in_a_byte(rt: HostRuntime) {
     let held = SumHeld::fresh().counted(-127);
-    assert_eq!(rt; held.unsent(), (127, -127));
-    assert_eq!(rt; held.small(), Some(-127));
-    assert_eq!(rt; SumHeld::from_small(-127), held);
-    assert_eq!(rt; held.counted(-1).small(), None);
-    assert_eq!(rt; held.told_all(), SumHeld::fresh());
+    assert!(rt; held.unsent() == (127, -127));
+    assert!(rt; held.small() == Some(-127));
+    assert!(rt; SumHeld::from_small(-127) == held);
+    assert!(rt; held.counted(-1).small() == None);
+    assert!(rt; held.told_all() == SumHeld::fresh());
 }

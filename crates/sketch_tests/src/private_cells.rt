@@ -37,13 +37,13 @@ fn a_count_min_owes_its_sum(rt: HostRuntime) -> Result<(), Fail> {
     let Ok(mut sketch) = Private::<CountMin>::new(rt.alloc(), 1, 3, 3) else {
         return Err(Fail::from("memory"));
     };
-    assert_eq!(rt; count_one(&mut sketch, 1, true), None);
-    assert_eq!(rt; count_one(&mut sketch, 1, true), None);
-    assert_eq!(rt; count_one(&mut sketch, 1, true), Some(3));
-    assert_eq!(rt; sketch.residue(0), 0);
-    assert_eq!(rt; sketch.counted(), 3);
+    assert!(rt; count_one(&mut sketch, 1, true) == None);
+    assert!(rt; count_one(&mut sketch, 1, true) == None);
+    assert!(rt; count_one(&mut sketch, 1, true) == Some(3));
+    assert!(rt; sketch.residue(0) == 0);
+    assert!(rt; sketch.counted() == 3);
     let bits = sketch.into_bits();
-    assert_eq!(rt; bits.count(), 0);
+    assert!(rt; bits.count() == 0);
     Ok(())
 }
 
@@ -52,14 +52,14 @@ fn a_refused_push_of_a_count_sketch_stays_in_the_residue(rt: HostRuntime) -> Res
     let Ok(mut sketch) = Private::<CountSketch>::new(rt.alloc(), 1, 3, 3) else {
         return Err(Fail::from("memory"));
     };
-    assert_eq!(rt; count_one(&mut sketch, 2, true), None);
-    assert_eq!(rt; count_one(&mut sketch, 1, false), Some(3));
-    assert_eq!(rt; count_one(&mut sketch, -1, true), None);
-    assert_eq!(rt; sketch.residue(0), 2);
-    assert_eq!(rt; sketch.refused_at(0), false);
-    assert_eq!(rt; sketch.refused_at(1), true);
+    assert!(rt; count_one(&mut sketch, 2, true) == None);
+    assert!(rt; count_one(&mut sketch, 1, false) == Some(3));
+    assert!(rt; count_one(&mut sketch, -1, true) == None);
+    assert!(rt; sketch.residue(0) == 2);
+    assert!(rt; sketch.refused_at(0) == false);
+    assert!(rt; sketch.refused_at(1) == true);
     let bits = sketch.into_bits();
-    assert_eq!(rt; bits.count(), 1);
+    assert!(rt; bits.count() == 1);
     Ok(())
 }
 
@@ -68,11 +68,11 @@ fn a_loglog_register_owes_its_rank(rt: HostRuntime) -> Result<(), Fail> {
     let Ok(mut sketch) = Private::<LogLog>::new(rt.alloc(), 1, 1, 4) else {
         return Err(Fail::from("memory"));
     };
-    assert_eq!(rt; count_one(&mut sketch, 3, true), Some(3));
-    assert_eq!(rt; count_one(&mut sketch, 3, true), None);
-    assert_eq!(rt; count_one(&mut sketch, 2, true), None);
-    assert_eq!(rt; count_one(&mut sketch, 7, true), Some(7));
-    assert_eq!(rt; sketch.residue(0), 0);
+    assert!(rt; count_one(&mut sketch, 3, true) == Some(3));
+    assert!(rt; count_one(&mut sketch, 3, true) == None);
+    assert!(rt; count_one(&mut sketch, 2, true) == None);
+    assert!(rt; count_one(&mut sketch, 7, true) == Some(7));
+    assert!(rt; sketch.residue(0) == 0);
     Ok(())
 }
 
@@ -114,10 +114,10 @@ fn check_step<K: Kind>(rt: &impl Abort, sketch: &mut Private<K>, step: &Step)
 {
     assert!(rt; sketch.has_left());
     assert!(rt; K::is_value(step.value));
-    assert_eq!(rt; count_one(sketch, step.value, step.send), step.amount);
-    assert_eq!(rt; sketch.residue(0), step.residue);
-    assert_eq!(rt; sketch.wide(), step.wide);
-    assert_eq!(rt; sketch.small_bytes(), [step.byte].as_slice());
+    assert!(rt; count_one(sketch, step.value, step.send) == step.amount);
+    assert!(rt; sketch.residue(0) == step.residue);
+    assert!(rt; sketch.wide() == step.wide);
+    assert!(rt; sketch.small_bytes() == [step.byte].as_slice());
 }
 
 fn check_steps<K: Kind>(

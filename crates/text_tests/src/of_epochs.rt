@@ -95,8 +95,8 @@ fn check_text<R: Abort>(
     text: &str,
 ) -> Result<(), NoMemory> {
     let mut sink = MemSink::new(alloc, 4096, &[])?;
-    assert_eq!(rt; write_epochs(&mut sink, report), Ok(()));
-    assert_eq!(rt; sink.held(), text.as_bytes());
+    assert!(rt; write_epochs(&mut sink, report) == Ok(()));
+    assert!(rt; sink.held() == text.as_bytes());
     Ok(())
 }
 
@@ -169,18 +169,16 @@ fn a_failing_write_leaves_the_epochs_before(rt: HostRuntime) -> Result<(), Fail>
     let report = both(alloc, 1)?;
     for line in 0..18 {
         let mut sink = MemSink::new(alloc, 4096, &[line])?;
-        assert_eq!(rt;
-            write_epochs(&mut sink, &report),
-            Err(Failed),
+        assert!(rt;
+            write_epochs(&mut sink, &report) == Err(Failed),
             "line {line}"
         );
-        assert_eq!(rt;
-            sink.held(),
-            first_lines(CHANGED.as_bytes(), line),
+        assert!(rt;
+            sink.held() == first_lines(CHANGED.as_bytes(), line),
             "line {line}"
         );
     }
     let mut sink = MemSink::new(alloc, 4096, &[18])?;
-    assert_eq!(rt; write_epochs(&mut sink, &report), Ok(()));
+    assert!(rt; write_epochs(&mut sink, &report) == Ok(()));
     Ok(())
 }

@@ -112,8 +112,8 @@ fn check_text<R: Abort>(
     requires { HasEachLength report.now }
 {
     let mut sink = MemSink::new(alloc, 4096, &[])?;
-    assert_eq!(rt; write_prefix(&mut sink, report), Ok(()));
-    assert_eq!(rt; sink.held(), text.as_bytes());
+    assert!(rt; write_prefix(&mut sink, report) == Ok(()));
+    assert!(rt; sink.held() == text.as_bytes());
     Ok(())
 }
 
@@ -230,18 +230,16 @@ fn a_failing_write_leaves_the_lines_before_it(rt: HostRuntime) -> Result<(), Fai
     let report = counted(&rt, alloc, &[FIRST], &options, &[])?;
     for line in 0..29 {
         let mut sink = MemSink::new(alloc, 4096, &[line])?;
-        assert_eq!(rt;
-            write_prefix(&mut sink, &report),
-            Err(Failed),
+        assert!(rt;
+            write_prefix(&mut sink, &report) == Err(Failed),
             "line {line}"
         );
-        assert_eq!(rt;
-            sink.held(),
-            first_lines(CUT_OFF.as_bytes(), line),
+        assert!(rt;
+            sink.held() == first_lines(CUT_OFF.as_bytes(), line),
             "line {line}"
         );
     }
     let mut sink = MemSink::new(alloc, 4096, &[29])?;
-    assert_eq!(rt; write_prefix(&mut sink, &report), Ok(()));
+    assert!(rt; write_prefix(&mut sink, &report) == Ok(()));
     Ok(())
 }

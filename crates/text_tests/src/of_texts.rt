@@ -87,8 +87,8 @@ fn check_report<R: Abort>(
     text: &str,
 ) -> Result<(), NoMemory> {
     let mut sink = MemSink::new(alloc, 4096, &[])?;
-    assert_eq!(rt; write_report(&mut sink, report), Ok(()));
-    assert_eq!(rt; sink.held(), text.as_bytes());
+    assert!(rt; write_report(&mut sink, report) == Ok(()));
+    assert!(rt; sink.held() == text.as_bytes());
     Ok(())
 }
 
@@ -210,22 +210,20 @@ fn a_failing_write_leaves_the_lines_before(rt: HostRuntime) -> Result<(), Fail> 
     let report = single(alloc, key(1234, 443, 6))?;
     for line in 0..15 {
         let mut sink = MemSink::new(alloc, 4096, &[line])?;
-        assert_eq!(rt;
-            write_report(&mut sink, &report),
-            Err(Failed),
+        assert!(rt;
+            write_report(&mut sink, &report) == Err(Failed),
             "line {line}"
         );
-        assert_eq!(rt;
-            sink.held(),
-            first_lines(SINGLE.as_bytes(), line),
+        assert!(rt;
+            sink.held() == first_lines(SINGLE.as_bytes(), line),
             "line {line}"
         );
     }
     let mut sink = MemSink::new(alloc, 4096, &[15])?;
-    assert_eq!(rt; write_report(&mut sink, &report), Ok(()));
+    assert!(rt; write_report(&mut sink, &report) == Ok(()));
     let mut short = MemSink::new(alloc, 30, &[])?;
-    assert_eq!(rt; write_report(&mut short, &report), Err(Failed));
-    assert_eq!(rt; short.held(), b"octosketch report 1\nsketch cou".as_slice());
+    assert!(rt; write_report(&mut short, &report) == Err(Failed));
+    assert!(rt; short.held() == b"octosketch report 1\nsketch cou".as_slice());
     Ok(())
 }
 
@@ -319,8 +317,8 @@ fn check_journal<R: Abort>(
     requires { IsComplete journal.now }
 {
     let mut sink = MemSink::new(alloc, 4096, &[])?;
-    assert_eq!(rt; write_journal(&mut sink, journal), Ok(()));
-    assert_eq!(rt; sink.held(), text.as_bytes());
+    assert!(rt; write_journal(&mut sink, journal) == Ok(()));
+    assert!(rt; sink.held() == text.as_bytes());
     Ok(())
 }
 

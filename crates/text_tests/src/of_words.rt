@@ -176,32 +176,32 @@ fn a_front_of_words_is_read_where_it_is_whole(rt: HostRuntime) -> Result<(), Fai
 #[test]
 fn options_have_defaults(rt: HostRuntime) -> Result<(), Fail> {
     let plain = run(rt.alloc(), &["run"])?;
-    assert_eq!(rt; plain.sketch, Sketch::CountMin);
-    assert_eq!(rt;
-        plain.shape,
-        Shape {
-            rows: 4,
-            columns: 2048
-        }
+    assert!(rt; plain.sketch == Sketch::CountMin);
+    assert!(rt;
+        plain.shape
+            == Shape {
+                rows: 4,
+                columns: 2048
+            }
     );
-    assert_eq!(rt; plain.amount, Amount::Packets);
-    assert_eq!(rt; plain.share, Share::Turn);
-    assert_eq!(rt; (plain.workers, plain.threshold), (4, 16));
-    assert_eq!(rt; (plain.lane, plain.batch, plain.round), (64, 32, 64));
-    assert_eq!(rt; plain.full, Full::Leave);
-    assert_eq!(rt; plain.mode, Mode::Rounds);
-    assert_eq!(rt; (plain.readers, plain.asks, plain.watch.len()), (0, 0, 0));
-    assert_eq!(rt; (plain.heavy, plain.least), (64, 1024));
+    assert!(rt; plain.amount == Amount::Packets);
+    assert!(rt; plain.share == Share::Turn);
+    assert!(rt; (plain.workers, plain.threshold) == (4, 16));
+    assert!(rt; (plain.lane, plain.batch, plain.round) == (64, 32, 64));
+    assert!(rt; plain.full == Full::Leave);
+    assert!(rt; plain.mode == Mode::Rounds);
+    assert!(rt; (plain.readers, plain.asks, plain.watch.len()) == (0, 0, 0));
+    assert!(rt; (plain.heavy, plain.least) == (64, 1024));
     assert!(rt; !plain.journal);
     let registers = run(rt.alloc(), &["run", "--sketch", "loglog"])?;
-    assert_eq!(rt;
-        registers.shape,
-        Shape {
-            rows: 1,
-            columns: 2048
-        }
+    assert!(rt;
+        registers.shape
+            == Shape {
+                rows: 1,
+                columns: 2048
+            }
     );
-    assert_eq!(rt; registers.threshold, 1);
+    assert!(rt; registers.threshold == 1);
     Ok(())
 }
 
@@ -209,8 +209,8 @@ fn options_have_defaults(rt: HostRuntime) -> Result<(), Fail> {
 fn values_stand_behind_a_space_or_a_sign(rt: HostRuntime) -> Result<(), Fail> {
     let spaced = run(rt.alloc(), &["run", "--rows", "2", "--share", "key"])?;
     let joined = run(rt.alloc(), &["run", "--share=key", "--rows=2"])?;
-    assert_eq!(rt; (spaced.shape.rows, joined.shape.rows), (2, 2));
-    assert_eq!(rt; (spaced.share, joined.share), (Share::Key, Share::Key));
+    assert!(rt; (spaced.shape.rows, joined.shape.rows) == (2, 2));
+    assert!(rt; (spaced.share, joined.share) == (Share::Key, Share::Key));
     Ok(())
 }
 
@@ -220,7 +220,7 @@ fn a_mode_is_chosen(rt: HostRuntime) -> Result<(), Fail> {
         (["run", "--mode=rounds"], Mode::Rounds),
         (["run", "--mode=threads"], Mode::Threads),
     ] {
-        assert_eq!(rt; run(rt.alloc(), &words)?.mode, mode);
+        assert!(rt; run(rt.alloc(), &words)?.mode == mode);
     }
     let words = [
         "load",
@@ -231,7 +231,7 @@ fn a_mode_is_chosen(rt: HostRuntime) -> Result<(), Fail> {
         "threads",
     ];
     match read(rt.alloc(), &words)? {
-        Some(Command::Load { options, .. }) => assert_eq!(rt; options.mode, Mode::Threads),
+        Some(Command::Load { options, .. }) => assert!(rt; options.mode == Mode::Threads),
         _ => return Err(Fail::from("no load")),
     }
     Ok(())
@@ -245,7 +245,7 @@ fn a_flag_stands_anywhere(rt: HostRuntime) -> Result<(), Fail> {
     ] {
         let options = run(rt.alloc(), &words)?;
         assert!(rt; options.journal);
-        assert_eq!(rt; options.shape.rows, 2);
+        assert!(rt; options.shape.rows == 2);
     }
     let registers = run(rt.alloc(), &["run", "--sketch", "loglog", "--journal"])?;
     assert!(rt; registers.journal);
@@ -270,8 +270,8 @@ fn loads_a_generated_capture(rt: HostRuntime) -> Result<(), Fail> {
                 options,
             },
         ) => {
-            assert_eq!(rt; (records, start), (1048576, 4294967295));
-            assert_eq!(rt; options.amount, Amount::Bytes);
+            assert!(rt; (records, start) == (1048576, 4294967295));
+            assert!(rt; options.amount == Amount::Bytes);
             Ok(())
         }
         _ => Err(Fail::from("no load")),
@@ -286,9 +286,9 @@ fn watches_keys(rt: HostRuntime) -> Result<(), Fail> {
         "10.0.0.1:80>10.0.0.2:443/6,[2001:db8:0:0:0:0:0:1]:53>[2001:db8:0:0:0:0:0:2]:1234/17";
     let options = run(rt.alloc(), &["run", "--watch", list])?;
     let keys = options.watch.as_slice();
-    assert_eq!(rt; keys.len(), 2);
-    assert_eq!(rt; Some(keys[0]), parse_key(first));
-    assert_eq!(rt; Some(keys[1]), parse_key(second));
+    assert!(rt; keys.len() == 2);
+    assert!(rt; Some(keys[0]) == parse_key(first));
+    assert!(rt; Some(keys[1]) == parse_key(second));
     Ok(())
 }
 
@@ -298,18 +298,12 @@ fn watches_networks(rt: HostRuntime) -> Result<(), Fail> {
     let Some(Command::Prefix { options, watch }) = read(rt.alloc(), &words)? else {
         return Err(Fail::from("no prefix"));
     };
-    assert_eq!(rt;
-        (options.sketch, options.mode),
-        (Sketch::CountMin, Mode::Rounds)
-    );
-    assert_eq!(rt;
-        (options.asks, options.watch.len(), options.journal),
-        (3, 0, false)
-    );
+    assert!(rt; (options.sketch, options.mode) == (Sketch::CountMin, Mode::Rounds));
+    assert!(rt; (options.asks, options.watch.len(), options.journal) == (3, 0, false));
     let networks = watch.as_slice();
-    assert_eq!(rt; networks.len(), 2);
-    assert_eq!(rt; (networks[0].bits, networks[0].length), (0x0a000001, 32));
-    assert_eq!(rt; (networks[1].bits, networks[1].length), (0x0a000000, 8));
+    assert!(rt; networks.len() == 2);
+    assert!(rt; (networks[0].bits, networks[0].length) == (0x0a000001, 32));
+    assert!(rt; (networks[1].bits, networks[1].length) == (0x0a000000, 8));
     Ok(())
 }
 
@@ -341,8 +335,8 @@ fn counts_in_epochs(rt: HostRuntime) -> Result<(), Fail> {
         else {
             return Err(Fail::from("no epochs"));
         };
-        assert_eq!(rt; (packets, change, options.mode), (size, least, mode));
-        assert_eq!(rt; (options.sketch, options.readers), (Sketch::CountSketch, 0));
+        assert!(rt; (packets, change, options.mode) == (size, least, mode));
+        assert!(rt; (options.sketch, options.readers) == (Sketch::CountSketch, 0));
     }
     Ok(())
 }
