@@ -1,18 +1,16 @@
 -- One message more of a lane.
-use Rattle.std.proofs.Common.{zero, suc, ◌≡◌, ◌≢◌, ◌<◌, ◌≤◌, ℕ, ◌==◌, Bool, true, false, cond, List, [], ◌∷◌, ◌++◌, length, map, set, get_or, refl, sym, ap, subst, ◌∙◌, arith, inl, inr, slice_get, true≢false, append-nil}
-use Rattle.std.specs.Prelude.{Some, Option, None, All}
-use Rattle.std.proofs.lemmas.List.{map-set, get_or-map, get_or-set_other, get_or-set_same, length-map, length_push, get_or_push, get_or_append_left, append_assoc}
-use Rattle.std.proofs.lemmas.Option.{get_or_from_slice_get, slice_get_within}
+use Rattle.std.proofs.Common.{zero, suc, ◌≡◌, ◌≢◌, ◌<◌, ℕ, ◌==◌, Bool, true, false, cond, List, [], ◌∷◌, ◌++◌, length, set, get_or, refl, sym, ap, subst, ◌∙◌, arith, inl, inr, true≢false}
+use Rattle.std.specs.Prelude.{All}
+use Rattle.std.proofs.lemmas.List.{get_or-set_other, get_or-set_same, length_push, get_or_push, get_or_append_left}
 use Rattle.std.proofs.lemmas.Bool.{cases_eq}
-use Rattle.std.proofs.Math.Seq.{map-set_same}
 use Rattle.hash_rows.specs.declared.shape.Push.{Push}
 use Rattle.hash_rows.specs.Rules.{Rules}
 use Rattle.push_history.specs.Front.{messages_of}
 use Rattle.push_history.proofs.Lists.{filter_push_no, filter_push_yes}
-use Rattle.push_lane.specs.Views.{LaneView, OutView}
+use Rattle.push_lane.specs.Views.{OutView}
 use Rattle.live_state.specs.Fold.{fits}
 use Rattle.live_state.specs.declared.layout.Layout.{Layout}
-use Rattle.aggregate.specs.Takens.{ArePassesOf, AreNamed, AreTaken, takens, taken_at}
+use Rattle.aggregate.specs.Takens.{AreNamed, AreTaken, takens, taken_at}
 
 -- the lists with one message more at the place
 abbrev pub with_one : List (List Push) → ℕ → Push → List (List Push)

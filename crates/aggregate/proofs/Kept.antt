@@ -1,5 +1,5 @@
 -- What an aggregator keeps.
-use Rattle.std.proofs.Common.{◌≡◌, ◌<◌, ◌≤◌, ℕ, ◌==◌, Bool, true, false, cond, List, [], ◌∷◌, ◌++◌, length, map, set, get_or, refl, sym, ap, subst, ◌∙◌, arith, append_assoc, append-nil, slice_get}
+use Rattle.std.proofs.Common.{◌≡◌, ◌<◌, ℕ, cond, List, [], ◌∷◌, ◌++◌, length, set, get_or, refl, sym, ap, subst, ◌∙◌, arith, append_assoc, append-nil, slice_get}
 use Rattle.std.specs.Prelude.{Some, None, Option, MatchOption}
 use Rattle.std.proofs.lemmas.List.{map-set, get_or-map, length-map}
 use Rattle.std.proofs.lemmas.Option.{get_or_from_slice_get, slice_get_within}
@@ -8,9 +8,8 @@ use Rattle.hash_rows.specs.declared.shape.Push.{Push}
 use Rattle.hash_rows.specs.Rules.{Rules}
 use Rattle.push_lane.specs.Views.{LaneView, OutView}
 use Rattle.live_state.specs.Fold.{fits}
-use Rattle.live_view.specs.Views.{WriterView}
 use Rattle.live_state.specs.declared.layout.Layout.{Layout}
-use Rattle.aggregate.specs.Sweeps.{HasTaken, KeepsPair, AggregatorView, kept_by, listed_held}
+use Rattle.aggregate.specs.Sweeps.{HasTaken, KeepsPair, AggregatorView, kept_by}
 use Rattle.aggregate.specs.Takens.{ArePassesOf, AreTaken, takens}
 use Rattle.aggregate.proofs.Grown.{taken_more, with_one}
 

@@ -1,8 +1,7 @@
 -- What a call took of one lane after another, and what it kept of it.
 use Rattle.std.proofs.Common.{◌≡◌, ◌≢◌, ◌<◌, ◌≤◌, ◌+◌, ℕ, Bool, true, false, cond, List, [], ◌∷◌, ◌++◌, length, set, get_or, refl, sym, ap, subst, ◌∙◌, arith, inl, inr}
 use Rattle.std.specs.Prelude.{filter}
-use Rattle.std.specs.List.{flat_map}
-use Rattle.std.proofs.lemmas.Bool.{cases_eq, cases_lt}
+use Rattle.std.proofs.lemmas.Bool.{cases_lt}
 use Rattle.std.proofs.lemmas.Grind.{flat_map-append}
 use Rattle.std.proofs.lemmas.List.{append_assoc, append-nil, get_or_append_left, get_or_past, get_or_push, get_or-set_same, get_or-set_other, length-append, length_push, set-get_or, set-set}
 use Rattle.std.proofs.lemmas.List.Elements.{filter-append}
@@ -12,7 +11,7 @@ use Rattle.live_state.specs.Fold.{fits}
 use Rattle.live_state.specs.declared.layout.Layout.{Layout}
 use Rattle.push_history.proofs.Lists.{filter_push_no, filter_push_yes}
 use Rattle.push_lane.specs.Views.{OutView}
-use Rattle.aggregate.specs.Sweeps.{AggregatorView, HasKept, HasSwept, HasSweptLane, HaveTaken, in_order, kept_by}
+use Rattle.aggregate.specs.Sweeps.{AggregatorView, HasSwept, HasSweptLane, HaveTaken, in_order, kept_by}
 use Rattle.aggregate.specs.Takens.{taken_at, takens}
 use Rattle.aggregate.proofs.Grown.{with_one}
 

@@ -1,5 +1,5 @@
 -- What was taken of each lane.
-use Rattle.std.specs.Prelude.{◌≡◌, ◌<◌, ℕ, true, List, [], All, map, slice_index_or}
+use Rattle.std.specs.Prelude.{◌≡◌, ℕ, true, List, [], All, map, slice_index_or}
 use Rattle.hash_rows.specs.declared.shape.Push.{Push}
 use Rattle.hash_rows.specs.Rules.{Rules}
 use Rattle.push_history.specs.Front.{messages_of}

@@ -2,7 +2,6 @@
 use Rattle.push_history.specs.LagRun.{is_wait}
 use Rattle.std.specs.Prelude.{ℕ, ◌==◌, ◌||◌, ◌∷◌, List, [], not, length, map, nat_lt, nat_le, slice_index_or}
 use Rattle.std.specs.List.{flat_map, range_with_len}
-use Rattle.hash_rows.specs.declared.options.Full.{Full}
 use Rattle.hash_rows.specs.declared.options.Options.{Options}
 use Rattle.hash_rows.specs.declared.shape.Packet.{Packet}
 use Rattle.hash_rows.specs.declared.shape.Push.{Push}

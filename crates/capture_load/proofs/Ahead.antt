@@ -1,6 +1,6 @@
 -- What a source has left whose next bytes were looked at.
 use Rattle.std.proofs.Common.{◌≡◌, ◌<◌, ◌∙◌, refl, ℕ, List, [], ◌∷◌, ◌++◌, length, sym, ap, subst, arith}
-use Rattle.std.specs.Prelude.{Option, Some, None, IfSome}
+use Rattle.std.specs.Prelude.{Option, Some, IfSome}
 use Rattle.flow_base.specs.Flow.{behind}
 use Rattle.flow_base.proofs.FlowLemmas.{behind-append, behind-nil}
 

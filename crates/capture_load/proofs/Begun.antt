@@ -1,14 +1,10 @@
 -- Readers that have taken the first bytes of a pcapng capture.
-use Rattle.std.proofs.Common.{◌≡◌, ◌<◌, ℕ, ◌+◌, List, [], ◌∷◌, ◌++◌, length, take, Bool, true, false, MatchBool, MatchOption, Option, Some, None, refl, sym, ap, ◌∙◌, subst, arith, length-take, length-append}
+use Rattle.std.proofs.Common.{◌≡◌, ◌<◌, ℕ, ◌+◌, List, [], ◌∷◌, ◌++◌, length, take, Bool, true, false, MatchBool, Some, None, refl, sym, ap, ◌∙◌, subst, arith, length-take, length-append}
 use Rattle.std.specs.List.{flat_map}
 use Rattle.std.specs.Prelude.{if◌then◌else◌}
 use Rattle.std.proofs.lemmas.List.{take_all}
 use Rattle.pcap_read.specs.Header.{number_at}
-use Rattle.pcap_read.specs.Place.{Place, Stands, InHeader, InBody}
 use Rattle.pcap_read.specs.Records.{Framed}
-use Rattle.pcap_read.specs.Takes.{GoesOn, TakesWhole}
-use Rattle.pcap_read.specs.declared.bad.Order.{Order}
-use Rattle.pcap_read.specs.declared.reader.Taken.{Taken}
 use Rattle.pcapng_read.proofs.Blocks.{known_sound}
 use Rattle.pcapng_read.specs.Blocks.{start, judged_in, first_judged, block_refusal}
 use Rattle.pcapng_read.specs.Capture.{AreBlocks, Block, RefusesNext, framed, text, walk_behind}

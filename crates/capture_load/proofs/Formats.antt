@@ -1,8 +1,6 @@
 -- Which format the first bytes tell.
 use Rattle.std.proofs.Common.{◌≡◌, ◌<◌, ◌≤◌, ℕ, ◌+◌, List, [], ◌∷◌, ◌++◌, length, take, zero, suc, refl, sym, ap, ◌∙◌, subst, arith, append_assoc, length-take}
-use Rattle.std.specs.Prelude.{slice_index}
 use Rattle.std.proofs.lemmas.List.{append-nil}
-use Rattle.std.proofs.Math.Seq.{take-length}
 use Rattle.pcap_read.specs.Header.{IsPartOfHeader, header_refusal}
 use Rattle.capture_load.specs.Capture.{IsNg, ng_magic}
 use Rattle.capture_load.specs.Loads.{IsOther}

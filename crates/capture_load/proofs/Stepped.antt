@@ -1,15 +1,13 @@
 -- What a step of a format's reader makes of a capture that is loaded.
-use Rattle.std.proofs.Common.{◌≡◌, ◌<◌, ℕ, List, [], ◌++◌, take, sym, subst}
+use Rattle.std.proofs.Common.{◌<◌, ℕ, List, ◌++◌, take}
 use Rattle.std.specs.Prelude.{Result, Ok, Err, IfOk, MatchResult}
-use Rattle.std.proofs.lemmas.List.{append-nil}
 use Rattle.pcap_read.specs.Place.{Place}
 use Rattle.pcap_read.specs.Records.{Framed}
 use Rattle.pcapng_read.specs.View.{NgReaderView}
 use Rattle.capture_load.specs.Capture.{IsNg}
-use Rattle.capture_load.specs.Loads.{IsOther, KeepsPackets, Loads, NgNoted, NgStops, PcapNoted, PcapStops, StandsIn, StopsIn}
+use Rattle.capture_load.specs.Loads.{IsOther, Loads, NgNoted, NgStops, PcapNoted, PcapStops, StopsIn}
 use Rattle.capture_load.specs.declared.capture.LoadStop.{LoadStop}
 use Rattle.capture_load.specs.declared.capture.LoadStop.TheVariants.{ReadFault, Bad as BadStop, Ng as NgStop, NoMemory}
-use Rattle.capture_load.specs.declared.format.Format.{Format}
 use Rattle.capture_load.specs.declared.format.Format.TheVariants.{Pcap, Ng}
 use Rattle.capture_load.specs.declared.notes.Notes.{Notes}
 use Rattle.capture_load.proofs.Formats.{ng_stays, other_now}

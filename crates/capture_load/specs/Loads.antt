@@ -3,6 +3,7 @@ use Rattle.std.specs.Prelude.{◌≡◌, ◌<◌, ◌≤◌, ◌⊎◌, ◌++◌
 use Rattle.pcap_read.specs.Records.{Framed}
 use Rattle.pcap_read.specs.Capture.{RefusesNext as PcapRefusesNext}
 use Rattle.pcap_read.specs.Place.{Place, Stands}
+use Rattle.hash_rows.specs.Limits.{most_records}
 use Rattle.pcapng_read.specs.Capture.{RefusesNext as NgRefusesNext}
 use Rattle.pcapng_read.specs.Takes.{taken_by, most_bytes as most_of}
 use Rattle.pcapng_read.specs.View.{NgReaderView, Stands as NgStands}
@@ -20,19 +21,15 @@ use Rattle.capture_load.specs.declared.format.Format.TheVariants.{Open, Pcap, Ng
 use Rattle.capture_load.specs.declared.loading.Loading.{Loading}
 use Rattle.capture_load.specs.declared.notes.Notes.{Notes}
 
--- the greatest number of records, of packet blocks, and of other blocks
-abbrev pub record_limit : ℕ
-record_limit = 16777216
-
 -- the bytes given hold this refusal; one of a beginning that isn't whole stands at the end of input alone
 abbrev pub HoldsRefusal : List ℕ → List ℕ → Refusal → Type 0
-HoldsRefusal given rest refusal = ((frames : List Framed) × RefusesNext record_limit given frames refusal)
-    ⊎ ((rest ≡ []) × CaptureOf record_limit given (Refused refusal))
+HoldsRefusal given rest refusal = ((frames : List Framed) × RefusesNext most_records given frames refusal)
+    ⊎ ((rest ≡ []) × CaptureOf most_records given (Refused refusal))
 
 -- the bytes are a capture, and this is what was loaded of it
 pub record IsLoaded (amount : Amount) (bytes : List ℕ) (capture : Capture) : Type 0 where
   pub frames : List Framed
-  pub whole : CaptureOf record_limit bytes (Whole frames capture.cut)
+  pub whole : CaptureOf most_records bytes (Whole frames capture.cut)
   pub packets : capture.packets.items ≡ packets_of amount frames
   pub records : capture.records ≡ length frames
   pub skipped : capture.skipped ≡ tallies_of frames
@@ -70,8 +67,8 @@ pub record Loads (loading : Loading) (bytes : List ℕ) (frames : List Framed) :
 -- as many frames were noted as records or packets are whole
 abbrev pub IsCounted : Format → ℕ → Type 0
 IsCounted (Open matched) number = (matched < 4) × (number ≡ 0)
-IsCounted (Pcap reader) number = (reader.limit ≡ record_limit) × (number ≡ reader.count) × (reader.count ≤ record_limit)
-IsCounted (Ng reader) number = (reader.limit ≡ record_limit) × (number ≡ reader.walk.packets) × (reader.walk.packets ≤ record_limit)
+IsCounted (Pcap reader) number = (reader.limit ≡ most_records) × (number ≡ reader.count) × (reader.count ≤ most_records)
+IsCounted (Ng reader) number = (reader.limit ≡ most_records) × (number ≡ reader.walk.packets) × (reader.walk.packets ≤ most_records)
 
 -- the frames that were noted are those that the reader counted
 abbrev pub Counts : Loading → Type 0
@@ -85,12 +82,12 @@ bytes_taken (Ng reader) = taken_by reader
 
 -- the most bytes that are read of a capture
 abbrev pub most_bytes : ℕ
-most_bytes = most_of record_limit
+most_bytes = most_of most_records
 
 -- why a reader stopped in these bytes
 abbrev pub PcapStops : List ℕ → LoadStop → Type 0
 PcapStops bytes ReadFault = ⊥
-PcapStops bytes (BadStop bad) = (frames : List Framed) × PcapRefusesNext record_limit bytes frames bad
+PcapStops bytes (BadStop bad) = (frames : List Framed) × PcapRefusesNext most_records bytes frames bad
 PcapStops bytes (NgStop bad) = ⊥
 PcapStops bytes NoMemory = Unit {0}
 
@@ -98,22 +95,22 @@ PcapStops bytes NoMemory = Unit {0}
 abbrev pub NgStops : List ℕ → LoadStop → Type 0
 NgStops bytes ReadFault = ⊥
 NgStops bytes (BadStop bad) = ⊥
-NgStops bytes (NgStop bad) = (frames : List Framed) × NgRefusesNext record_limit bytes frames bad
+NgStops bytes (NgStop bad) = (frames : List Framed) × NgRefusesNext most_records bytes frames bad
 NgStops bytes NoMemory = Unit {0}
 
 -- why loading stopped in these bytes
 abbrev pub StopsIn : List ℕ → LoadStop → Type 0
 StopsIn bytes ReadFault = ⊥
-StopsIn bytes (BadStop bad) = (frames : List Framed) × RefusesNext record_limit bytes frames (PcapRefusal bad)
-StopsIn bytes (NgStop bad) = (frames : List Framed) × RefusesNext record_limit bytes frames (NgRefusal bad)
+StopsIn bytes (BadStop bad) = (frames : List Framed) × RefusesNext most_records bytes frames (PcapRefusal bad)
+StopsIn bytes (NgStop bad) = (frames : List Framed) × RefusesNext most_records bytes frames (NgRefusal bad)
 StopsIn bytes NoMemory = Unit {0}
 
 -- what the whole input was, where it ended with this answer
 abbrev pub EndsAs : List ℕ → List Framed → Result ℕ LoadStop → Type 0
-EndsAs bytes frames (Ok cut) = CaptureOf record_limit bytes (Whole frames cut)
+EndsAs bytes frames (Ok cut) = CaptureOf most_records bytes (Whole frames cut)
 EndsAs bytes frames (Err ReadFault) = ⊥
-EndsAs bytes frames (Err (BadStop bad)) = CaptureOf record_limit bytes (Refused (PcapRefusal bad))
-EndsAs bytes frames (Err (NgStop bad)) = CaptureOf record_limit bytes (Refused (NgRefusal bad))
+EndsAs bytes frames (Err (BadStop bad)) = CaptureOf most_records bytes (Refused (PcapRefusal bad))
+EndsAs bytes frames (Err (NgStop bad)) = CaptureOf most_records bytes (Refused (NgRefusal bad))
 EndsAs bytes frames (Err NoMemory) = ⊥
 
 -- why loading stopped at the end of these bytes

@@ -8,6 +8,7 @@ ghost use Rattle.capture_load.specs.declared.capture.Refusal.{Refusal};
 ghost use Rattle.capture_load.specs.declared.format.Format.{Format};
 ghost use Rattle.pcap_read.specs.declared.bad.Bad.{Bad};
 ghost use Rattle.pcap_read.specs.Records.{Framed};
+ghost use Rattle.hash_rows.specs.Limits.{most_records};
 ghost use Rattle.pcapng_read.specs.declared.bad.NgBad.{NgBad};
 
 use crate::format::Format;
@@ -36,8 +37,8 @@ pub fn load_capture<S: Source>(
     ensures fine { OnOk result ((refusal : Refusal)
         → Given (S.left source.old) (S.left source.new) (λ given rest. HoldsRefusal given rest refusal → ⊥)) }
     ensures unrefused { IsErrOf result LoadStop.ReadFault → (frames : List Framed) (refusal : Refusal)
-        → Given (S.left source.old) (S.left source.new) (λ given rest. RefusesNext 16777216 given frames refusal → ⊥) }
-    ensures few { IfOk result (λ capture. length capture.packets.items ≤ 16777216) }
+        → Given (S.left source.old) (S.left source.new) (λ given rest. RefusesNext most_records given frames refusal → ⊥) }
+    ensures few { IfOk result (λ capture. length capture.packets.items ≤ most_records) }
     ensures front { (given : List ℕ) × (S.left source.old ≡ behind given (S.left source.new)) }
     ensures later { S.faults source.old ≤ S.faults source.new }
 {
@@ -63,8 +64,8 @@ pub fn load_behind<S: Source>(
     ensures fine { OnOk result ((refusal : Refusal)
         → Given (left_of S.left source.old) (S.left source.new.source.now) (λ given rest. HoldsRefusal given rest refusal → ⊥)) }
     ensures unrefused { IsErrOf result LoadStop.ReadFault → (frames : List Framed) (refusal : Refusal)
-        → Given (left_of S.left source.old) (S.left source.new.source.now) (λ given rest. RefusesNext 16777216 given frames refusal → ⊥) }
-    ensures few { IfOk result (λ capture. length capture.packets.items ≤ 16777216) }
+        → Given (left_of S.left source.old) (S.left source.new.source.now) (λ given rest. RefusesNext most_records given frames refusal → ⊥) }
+    ensures few { IfOk result (λ capture. length capture.packets.items ≤ most_records) }
     ensures front { (given : List ℕ) × (left_of S.left source.old ≡ behind given (S.left source.new.source.now)) }
     ensures later { S.faults source.old.source.now ≤ S.faults source.new.source.now }
 {
@@ -115,7 +116,7 @@ fn begin(alloc: Global, amount: Amount) -> Result<Loading, LoadStop>
 // At the end of input.
 fn finish(loading: Loading) -> Result<Capture, LoadStop>
     requires { Counts loading }
-    ensures few { IfOk result (λ capture. length capture.packets.items ≤ 16777216) }
+    ensures few { IfOk result (λ capture. length capture.packets.items ≤ most_records) }
     ensures ends { (bytes : List ℕ) (frames : List Framed) → Loads loading bytes frames →
         MatchResult result (IsLoaded loading.notes.amount bytes) (EndsIn bytes) }
 {

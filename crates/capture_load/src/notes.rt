@@ -1,6 +1,7 @@
 ghost use Rattle.std.specs.Prelude.{◌≡◌, ◌<◌, ◌≤◌, ◌+◌, ◌++◌, [], length, OnOk};
 ghost use Rattle.std.specs.Prelude.{◌∷◌, Err};
 ghost use Rattle.packet_key.specs.Frame.{key_of};
+ghost use Rattle.hash_rows.specs.Limits.{most_records};
 ghost use Rattle.capture_load.specs.Notes.{number_of, tallied};
 ghost use Rattle.capture_load.specs.Packets.{amount_of, packets_of};
 
@@ -20,7 +21,7 @@ impl Notes {
     /// Keeps the packet of a frame, or counts why it has none.
     #[inline(always)]
     pub fn note(&mut self, original: u32, bytes: &[u8]) -> Result<(), NoMemory>
-        requires { number_of self.old < 16777216 }
+        requires { number_of self.old < most_records }
         ensures packets { OnOk result (self.new.packets.items ≡ self.old.packets.items
             ++ packets_of self.old.amount (record { original = original; bytes = bytes.now } ∷ [])) }
         ensures skipped { OnOk result (self.new.skipped ≡ tallied self.old.skipped (key_of bytes.now)) }
@@ -41,7 +42,7 @@ impl Notes {
 
     /// How many frames there were: each has a packet or is skipped.
     pub fn number(&self) -> u64
-        requires { number_of self.now ≤ 16777216 }
+        requires { number_of self.now ≤ most_records }
         ensures { result ≡ number_of self.now }
     {
         let skipped = &self.skipped;
@@ -64,7 +65,7 @@ fn amount_in(amount: Amount, original: u32) -> u32
 
 // Adds the packet, with room for more where there is none.
 fn add(packets: &mut Packets, packet: Packet) -> Result<(), NoMemory>
-    requires { length packets.old.items < 16777216 }
+    requires { length packets.old.items < most_records }
     ensures { OnOk result (packets.new.items ≡ packets.old.items ++ packet ∷ []) }
 {
     make_room(packets)?;
@@ -73,7 +74,7 @@ fn add(packets: &mut Packets, packet: Packet) -> Result<(), NoMemory>
 }
 
 fn make_room(packets: &mut Packets) -> Result<(), NoMemory>
-    requires { length packets.old.items < 16777216 }
+    requires { length packets.old.items < most_records }
     ensures items { packets.new.items ≡ packets.old.items }
     ensures room { OnOk result (length packets.new.items < packets.new.room) }
 {
@@ -85,7 +86,7 @@ fn make_room(packets: &mut Packets) -> Result<(), NoMemory>
 }
 
 fn tally(skipped: &mut Tallies, why: Skip)
-    requires { skipped.old.short + skipped.old.not_ip + skipped.old.bad_ip + skipped.old.tags < 16777216 }
+    requires { skipped.old.short + skipped.old.not_ip + skipped.old.bad_ip + skipped.old.tags < most_records }
     ensures { skipped.new ≡ tallied skipped.old (Err why) }
 {
     match why {

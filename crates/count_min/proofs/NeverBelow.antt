@@ -1,5 +1,5 @@
 -- Count-Min is never below: each cell of a key is at least what the key's packets amount to.
-use Rattle.std.proofs.Common.{◌≡◌, ◌<◌, ◌≤◌, ◌+◌, ◌*◌, ◌/◌, ◌^◌, ◌≤ℤ◌, ◌+ℤ◌, ◌==◌, ℕ, ℤ, pos, zero, suc, Bool, true, false, cond, inl, inr, List, [], ◌∷◌, length, map, filter, fold, refl, sym, ap, subst, ◌∙◌, arith}
+use Rattle.std.proofs.Common.{◌≡◌, ◌<◌, ◌≤◌, ◌+◌, ◌*◌, ◌^◌, ◌≤ℤ◌, ◌==◌, ℕ, ℤ, pos, zero, suc, Bool, true, false, cond, inl, inr, List, [], ◌∷◌, length, map, filter, fold, refl, sym, ap, subst, ◌∙◌, arith}
 use Rattle.std.specs.Prelude.{sum_by, if◌then◌else◌}
 use Rattle.std.specs.Int.{int_min}
 use Rattle.std.specs.List.{flat_map, range_with_len}
@@ -16,7 +16,7 @@ use Rattle.packet_key.specs.Keys.{same_key}
 use Rattle.hash_rows.specs.Rules.{sums}
 use Rattle.hash_rows.specs.Sequential.{packet_values, cell_values, sequential, sequential_table}
 use Rattle.hash_rows.specs.Shapes.{IsShape, cell_of, size_of}
-use Rattle.hash_rows.specs.Sketches.{least_of, sum_join, count_min_value, count_min_estimate, key_cells, rows_of}
+use Rattle.hash_rows.specs.Sketches.{least_of, sum_join, count_min_value, count_min_estimate, key_cells}
 use Rattle.hash_rows.specs.Tables.{value_at}
 use Rattle.packet_key.proofs.EqualKeys.{same_key-eq}
 use Rattle.hash_rows.proofs.Places.{place_within}

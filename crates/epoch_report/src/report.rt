@@ -1,4 +1,5 @@
 ghost use Rattle.std.specs.Prelude.{◌≤◌, length, IfOk};
+ghost use Rattle.hash_rows.specs.Limits.{most_records};
 ghost use Rattle.epoch_run.specs.Epochs.{IsEpochs};
 ghost use Rattle.epoch_report.specs.Reports.{IsEpochReport};
 
@@ -41,7 +42,7 @@ pub fn report_of(
     options: &Options,
     epochs: Epochs,
 ) -> Result<EpochReport, NoMemory>
-    requires few { length packets.now ≤ 16777216 }
+    requires few { length packets.now ≤ most_records }
     requires epochs { IsEpochs size change options.now packets.now epochs.epochs.items epochs.whole }
     ensures { IfOk result (IsEpochReport packets.now records skipped cut size change options.now) }
 {

@@ -8,6 +8,7 @@ use Rattle.hash_rows.specs.declared.shape.Packet.{Packet}
 use Rattle.hash_rows.specs.declared.shape.Shape.{Shape}
 use Rattle.hash_rows.specs.Amounts.{total_amount}
 use Rattle.hash_rows.specs.Lawful.{IsLawful}
+use Rattle.hash_rows.specs.Limits.{most_records}
 use Rattle.hash_rows.specs.Rules.{rules_of}
 use Rattle.hash_rows.specs.Sequential.{joined_of, sequential_table}
 use Rattle.hash_rows.specs.Shapes.{size_of}
@@ -24,7 +25,7 @@ pub record IsEpochsRun (size change : ℕ) (o : Options) : Type 0 where
   pub sketch : o.sketch ≡ CountSketch
   pub readers : o.readers ≡ 0
   pub some_packets : 256 ≤ size
-  pub packets : size ≤ 16777216
+  pub packets : size ≤ most_records
   pub some_change : 1 ≤ change
   pub most_change : change ≤ 1099511627776
 

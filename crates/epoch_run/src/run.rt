@@ -1,4 +1,5 @@
 ghost use Rattle.std.specs.Prelude.{◌≤◌, length, IfOk};
+ghost use Rattle.hash_rows.specs.Limits.{most_records};
 ghost use Rattle.epoch_run.specs.Epochs.{IsEpochs, IsEpochsRun};
 
 use crate::counting::{clear, fill};
@@ -26,7 +27,7 @@ pub fn epochs_rounds<R: Threads + Sync>(
     options: &Options,
 ) -> Result<Epochs, NoMemory>
     requires run { IsEpochsRun size change options.now }
-    requires few { length packets.now ≤ 16777216 }
+    requires few { length packets.now ≤ most_records }
     ensures { IfOk result (λ e. IsEpochs size change options.now packets.now e.epochs.items e.whole) }
 {
     amounts_fit(packets);

@@ -1,4 +1,5 @@
 ghost use Rattle.std.specs.Prelude.{◌≡◌, ◌≤◌, ◌<◌, ◌*◌, ◌^◌, All, map, length, IfOk};
+ghost use Rattle.hash_rows.specs.Limits.{most_records};
 ghost use Rattle.hash_rows.specs.Shapes.{IsShape};
 ghost use Rattle.hash_rows.specs.Sketches.{rows_of};
 ghost use Rattle.hash_rows.specs.Tables.{used_in};
@@ -31,9 +32,9 @@ pub fn settle(
     used: Counts,
 ) -> Result<Epoch, NoMemory>
     requires shape { IsShape options.now.shape }
-    requires few { length packets.now ≤ 16777216 }
+    requires few { length packets.now ≤ most_records }
     requires amounts { All (λ p. p.amount < 2 ^ 32) packets.now }
-    requires size { size ≤ 16777216 }
+    requires size { size ≤ most_records }
     requires number { number * size < length packets.now }
     requires old { old.now ≡ sketch_table options.now.shape (packets_before size packets.now number) }
     requires new { new.now ≡ sketch_table options.now.shape (epoch_packets size packets.now number) }
@@ -57,9 +58,9 @@ fn changes_at(
     new: &Table<CountSketch>,
 ) -> Result<GreatestChanges, NoMemory>
     requires shape { IsShape options.now.shape }
-    requires few { length packets.now ≤ 16777216 }
+    requires few { length packets.now ≤ most_records }
     requires amounts { All (λ p. p.amount < 2 ^ 32) packets.now }
-    requires size { size ≤ 16777216 }
+    requires size { size ≤ most_records }
     requires number { number * size < length packets.now }
     requires old { old.now ≡ sketch_table options.now.shape (packets_before size packets.now number) }
     requires new { new.now ≡ sketch_table options.now.shape (epoch_packets size packets.now number) }
@@ -84,7 +85,7 @@ fn epoch_of(
     used: Counts,
     greatest: GreatestChanges,
 ) -> Result<Epoch, NoMemory>
-    requires few { length here.now ≤ 16777216 }
+    requires few { length here.now ≤ most_records }
     requires table { table.now ≡ sketch_table options.now.shape here.now }
     requires used { used.items ≡ map (used_in table.now) (rows_of options.now.shape) }
     ensures settled { IfOk result (IsSettled options.now here.now) }

@@ -1,5 +1,6 @@
 ghost use Rattle.std.specs.Prelude.{◌≡◌, ◌≤◌, length, IfOk};
 ghost use Rattle.hash_rows.specs.Lawful.{IsLawful};
+ghost use Rattle.hash_rows.specs.Limits.{most_records};
 ghost use Rattle.hash_rows.specs.declared.options.Mode.TheVariants.{Threads as InThreads};
 ghost use Rattle.hash_rows.specs.declared.options.Sketch.TheVariants.{CountSketch as CountSketchSketch};
 ghost use Rattle.epoch_run.specs.Epochs.{IsEpochs, IsEpochsRun, sketch_table};
@@ -30,7 +31,7 @@ pub fn epochs_threads<R: Threads + Wait + Sync, G: Gate>(
 ) -> Result<Epochs, NoMemory>
     requires run { IsEpochsRun size change options.now }
     requires mode { options.now.mode ≡ InThreads }
-    requires few { length packets.now ≤ 16777216 }
+    requires few { length packets.now ≤ most_records }
     ensures { IfOk result (λ e. IsEpochs size change options.now packets.now e.epochs.items e.whole) }
 {
     amounts_fit(packets);
@@ -61,7 +62,7 @@ fn table_of<R: Threads + Wait + Sync, G: Gate>(
     requires lawful { IsLawful options.now }
     requires sketch { options.now.sketch ≡ CountSketchSketch }
     requires mode { options.now.mode ≡ InThreads }
-    requires few { length packets.now ≤ 16777216 }
+    requires few { length packets.now ≤ most_records }
     ensures { IfOk result (λ table. table ≡ sketch_table options.now.shape packets.now) }
 {
     let Ran {

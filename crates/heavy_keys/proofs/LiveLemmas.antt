@@ -1,13 +1,10 @@
 -- A note keeps that a table holds the live keys.
-use Rattle.std.proofs.Common.{◌≡◌, ℕ, ℤ, ◌<◌, ◌≤◌, ◌+◌, Bool, true, false, not, ◌||◌, ◌&&◌, List, [], ◌∷◌, ◌++◌, length, take, drop, filter, min, nat_lt, refl, sym, ◌∙◌, ap, subst, arith}
-use Rattle.std.specs.Prelude.{int_le, fold, if◌then◌else◌}
-use Rattle.std.proofs.lemmas.List.{take-append-le, take-append-drop, take_all, length-take, length-append}
-use Rattle.std.proofs.lemmas.List.Folds.{list_any-append}
-use Rattle.std.proofs.lemmas.List.Sums.{fold-append}
+use Rattle.std.proofs.Common.{◌≡◌, ℕ, ℤ, ◌<◌, ◌≤◌, ◌+◌, Bool, true, false, not, ◌&&◌, List, [], ◌∷◌, ◌++◌, length, take, min, nat_lt, refl, sym, ◌∙◌, ap, subst, arith}
+use Rattle.std.specs.Prelude.{int_le, if◌then◌else◌}
+use Rattle.std.proofs.lemmas.List.{take_all, length-take, length-append}
 use Rattle.packet_key.specs.declared.key.FlowKey.{FlowKey}
-use Rattle.packet_key.specs.contracts.key.FlowKeyEq.TheImpl.Laws.{laws-law}
 use Rattle.hash_rows.specs.declared.shape.Flow.{Flow}
-use Rattle.push_history.specs.LiveHeavy.{same_key, is_among, with_key, distinct_keys, qualifying, live_of, missed_of}
+use Rattle.push_history.specs.LiveHeavy.{is_among, distinct_keys, qualifying, live_of, missed_of}
 use Rattle.std.proofs.lemmas.Bool.Decides.{nat_tests}
 use Rattle.push_history.proofs.Lists.{filter_push_no, filter_push_yes, kept_push}
 use Rattle.push_history.proofs.LiveLists.{distinct_push, there_live, new_live, full_live, length_with_key, none_missing_live, missing}

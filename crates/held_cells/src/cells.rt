@@ -2,7 +2,8 @@ ghost use Rattle.std.specs.Prelude.{◌≡◌, ◌<◌, ◌≤◌, ◌+◌, ℕ,
 ghost use Rattle.indexmap.specs.IndexMap.{IsUnique, get, spare};
 ghost use Rattle.held_cells.specs.Held.{Forms, IsByteOf, IsHeldBeside, byte_of, kept_at, mark};
 
-use crate::side::put;
+use crate::places::Places;
+use crate::side::{beside, beside_near, put};
 use flow_base::NoMemory;
 use hash_rows::Kind;
 use indexmap::IndexMap;
@@ -21,8 +22,8 @@ pub struct HeldCells<K: Kind> {
     side: IndexMap<u32, K::Held>,
     due: Option<(u32, K::Held)>,
     left: u32,
-    /// Where the side table's entry stands that was looked up last.
-    place: usize,
+    /// Where entries of the side table were seen.
+    places: Places,
 }
 
 impl<K: Kind> Model for HeldCells<K> {
@@ -53,13 +54,14 @@ impl<K: Kind> HeldCells<K> {
         ensures left { IfOk result (λ held. held.left ≡ changes) }
     {
         let bytes = Listed::filled(alloc, cells, 0)?;
+        let places = Places::new(alloc)?;
         match IndexMap::with_capacity(alloc, cells.min(changes) as usize) {
             Ok(side) => Ok(HeldCells {
                 bytes,
                 side,
                 due: None,
                 left: changes,
-                place: 0,
+                places,
             }),
             Err(_) => Err(NoMemory),
         }
@@ -96,7 +98,7 @@ impl<K: Kind> HeldCells<K> {
         ensures stands { (told : ℤ) × (whole : ℤ) × K.stands result told whole }
         ensures same { self.new ≡ self.old }
     {
-        kept_with_place::<K>(&self.bytes, &self.side, cell, &mut self.place)
+        kept_near::<K>(&self.bytes, &self.side, cell, &mut self.places)
     }
 
     /// The open value.
@@ -139,7 +141,7 @@ impl<K: Kind> HeldCells<K> {
         ensures idle { self.new.due ≡ None }
         ensures left { self.new.left + 1 ≡ self.old.left }
     {
-        hold::<K>(&mut self.bytes, &mut self.side, self.place, cell, held);
+        hold::<K>(&mut self.bytes, &mut self.side, &self.places, cell, held);
         self.left -= 1;
     }
 
@@ -154,7 +156,7 @@ impl<K: Kind> HeldCells<K> {
     {
         match self.due {
             Some((cell, _)) => {
-                hold::<K>(&mut self.bytes, &mut self.side, self.place, cell, held);
+                hold::<K>(&mut self.bytes, &mut self.side, &self.places, cell, held);
                 self.due = None;
                 self.left -= 1;
             }
@@ -172,7 +174,7 @@ impl<K: Kind> HeldCells<K> {
     {
         match self.due {
             Some((cell, held)) => {
-                keep::<K>(&self.bytes, &mut self.side, self.place, cell, held);
+                keep::<K>(&self.bytes, &mut self.side, &self.places, cell, held);
                 self.due = None;
                 self.left -= 1;
             }
@@ -227,17 +229,23 @@ fn kept<K: Kind>(bytes: &Listed<i8>, side: &IndexMap<u32, K::Held>, cell: u32) -
       fresh = K.fresh_held;
     }) bytes.now.items side.now.entries cell }
 {
-    let mut place = 0;
-    kept_with_place::<K>(bytes, side, cell, &mut place)
+    let byte = *bytes.get(cell);
+    if byte != MARK {
+        return K::from_small(byte);
+    }
+    match beside(side, cell) {
+        Some(held) => held,
+        None => K::fresh(),
+    }
 }
 
-// The same. Where the side table was asked, the place of its entry is kept.
+// The same. Where the side table was asked, the place of its entry is noted.
 #[inline(always)]
-fn kept_with_place<K: Kind>(
+fn kept_near<K: Kind>(
     bytes: &Listed<i8>,
     side: &IndexMap<u32, K::Held>,
     cell: u32,
-    place: &mut usize,
+    places: &mut Places,
 ) -> K::Held
     requires cell { cell < length bytes.now.items }
     requires tells { (held : K.Held)
@@ -253,22 +261,19 @@ fn kept_with_place<K: Kind>(
     if byte != MARK {
         return K::from_small(byte);
     }
-    match side.get_full(&cell) {
-        Some((at, _, held)) => {
-            *place = at;
-            *held
-        }
+    match beside_near(side, cell, places) {
+        Some(held) => held,
         None => K::fresh(),
     }
 }
 
 // Holds this value of the cell: its byte, and the value beside it where there is no small form. The
-// place is where the cell's entry may stand.
+// places tell where the cell's entry may stand.
 #[inline(always)]
 fn hold<K: Kind>(
     bytes: &mut Listed<i8>,
     side: &mut IndexMap<u32, K::Held>,
-    place: usize,
+    places: &Places,
     cell: u32,
     held: K::Held,
 )
@@ -283,7 +288,7 @@ fn hold<K: Kind>(
         Some(byte) => bytes.set(cell, byte),
         None => {
             bytes.set(cell, MARK);
-            put(side, place, cell, held);
+            put(side, places.of(cell), cell, held);
         }
     }
 }
@@ -293,7 +298,7 @@ fn hold<K: Kind>(
 fn keep<K: Kind>(
     bytes: &Listed<i8>,
     side: &mut IndexMap<u32, K::Held>,
-    place: usize,
+    places: &Places,
     cell: u32,
     held: K::Held,
 )
@@ -304,7 +309,7 @@ fn keep<K: Kind>(
     ensures { IsHeldBeside (K.small_of held) side.old.entries (spare side.old) cell held side.new.entries (spare side.new) }
 {
     if *bytes.get(cell) == MARK {
-        put(side, place, cell, held);
+        put(side, places.of(cell), cell, held);
     }
 }
 

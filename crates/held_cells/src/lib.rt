@@ -3,6 +3,7 @@
 #![tactic(auto)]
 
 mod cells;
+mod places;
 mod side;
 
 pub use cells::HeldCells;

@@ -1,5 +1,6 @@
 ghost use Rattle.std.specs.Prelude.{◌≡◌, ◌<◌, ◌≤◌, length, map, IfOk, None};
 ghost use Rattle.hash_rows.specs.Lawful.{IsLawful};
+ghost use Rattle.hash_rows.specs.Limits.{most_records};
 ghost use Rattle.octo_text.specs.Content.{content_of};
 ghost use Rattle.shares.specs.Owners.{AreOwners};
 ghost use Rattle.audit_law.specs.Tests.{first_failing};
@@ -38,7 +39,7 @@ pub fn given_of<K: Kind>(
 ) -> Result<Given, NoMemory>
     requires lawful { IsLawful journal.now.options }
     requires sketch { journal.now.options.sketch ≡ K.sketch }
-    requires few { length packets.now ≤ 16777216 }
+    requires few { length packets.now ≤ most_records }
     requires short { HasCountableLines journal.now }
     requires workers { HasWorkers journal.now }
     ensures failure { IfOk result (λ given. given.failure
@@ -74,7 +75,7 @@ fn given_worker<K: Kind>(
 ) -> Result<GivenWorker, NoMemory>
     requires lawful { IsLawful journal.now.options }
     requires sketch { journal.now.options.sketch ≡ K.sketch }
-    requires few { length packets.now ≤ 16777216 }
+    requires few { length packets.now ≤ most_records }
     requires short { HasCountableLines journal.now }
     requires workers { HasWorkers journal.now }
     requires owners { AreOwners journal.now.options packets.now owners.now }

@@ -1,4 +1,5 @@
 ghost use Rattle.std.specs.Prelude.{◌≡◌, ◌↔◌, ◌≤◌, length, IfOk};
+ghost use Rattle.hash_rows.specs.Limits.{most_records};
 ghost use Rattle.hash_rows.specs.declared.options.Mode.TheVariants.{Threads};
 ghost use Rattle.push_history.specs.LawfulJournal.{LawfulJournal};
 ghost use Rattle.octo_text.specs.Content.{content_of};
@@ -31,7 +32,7 @@ fn threads_failure<K: Kind>(
 ) -> Result<Option<Failure>, NoMemory>
     requires readable { IsReadable journal.now }
     requires sketch { journal.now.options.sketch ≡ K.sketch }
-    requires few { length packets.now ≤ 16777216 }
+    requires few { length packets.now ≤ most_records }
     ensures { IfOk result (λ failure. failure ≡ first_failing (tests_of packets.now journal.now.options (content_of journal.now))) }
 {
     amounts_fit(packets);
@@ -58,7 +59,7 @@ pub fn audit_threads<K: Kind>(
 ) -> Result<Verdict, NoMemory>
     requires readable { IsReadable journal.now }
     requires sketch { journal.now.options.sketch ≡ K.sketch }
-    requires few { length packets.now ≤ 16777216 }
+    requires few { length packets.now ≤ most_records }
     requires threads { journal.now.options.mode ≡ Threads }
     ensures lawful { IfOk result (λ verdict. (verdict ≡ Lawful) ↔ LawfulJournal packets.now journal.now.options (content_of journal.now)) }
     ensures differs { IfOk result (λ verdict. verdict ≡ verdict_of

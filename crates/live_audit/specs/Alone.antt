@@ -1,8 +1,6 @@
 -- The state after the messages of one worker, where it alone has some.
 use Rattle.std.specs.Prelude.{◌≡◌, ℕ, List, Bool, true, false, Option, MatchOption}
 use Rattle.packet_key.specs.declared.key.FlowKey.{FlowKey}
-use Rattle.hash_rows.specs.declared.options.Options.{Options}
-use Rattle.live_state.specs.declared.layout.Layout.{Layout}
 use Rattle.live_state.specs.Fold.{StateView}
 
 -- there is a state just where one worker alone has messages, and it has these live keys and missed so many

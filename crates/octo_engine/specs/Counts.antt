@@ -1,5 +1,6 @@
 -- What a worker that counts its next updates comes to.
 use Rattle.std.specs.Prelude.{◌≡◌, ◌<◌, ◌≤◌, ℕ, ℤ, ◌+◌, ◌-◌, ◌*◌, List, All, Bool, false, if◌then◌else◌, length}
+use Rattle.hash_rows.specs.Limits.{most_records}
 use Rattle.hash_rows.specs.declared.options.Options.{Options}
 use Rattle.hash_rows.specs.declared.shape.Packet.{Packet}
 use Rattle.hash_rows.specs.declared.shape.Shape.{Shape}
@@ -43,7 +44,7 @@ module _ {Held : Type 0} where
   -- the counter is for the packets of the share, and has room
   pub record IsFit (o : Options) (packets : ℕ) (share : List ℕ) (d : CounterView Held) : Type 0 where
     pub within : All (λ i. i < packets) share
-    pub few : length share ≤ 16777216
+    pub few : length share ≤ most_records
     pub updates : d.sketch.room ≡ o.shape.rows * length share
     pub counted : d.sketch.counted ≤ d.sketch.room
     pub cells : length d.sketch.held ≡ size_of o.shape

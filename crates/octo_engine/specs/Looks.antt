@@ -6,7 +6,6 @@ use Rattle.hash_rows.specs.declared.options.Options.{Options}
 use Rattle.hash_rows.specs.Rules.{Rules}
 use Rattle.push_history.specs.LagRun.{Terms}
 use Rattle.live_state.specs.Fold.{Fit, layout_in}
-use Rattle.live_state.specs.declared.layout.Layout.{Layout}
 use Rattle.round_law.specs.OwnRounds.{folded_after}
 use Rattle.push_history.specs.Looks.{IsLook}
 

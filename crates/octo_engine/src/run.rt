@@ -2,6 +2,7 @@
 ghost use Rattle.std.specs.Prelude.{◌≡◌, ◌<◌, ◌≤◌, ◌^◌, List, All, false, length, IfOk};
 ghost use Rattle.std.specs.List.{list_any};
 ghost use Rattle.hash_rows.specs.Lawful.{IsLawful};
+ghost use Rattle.hash_rows.specs.Limits.{most_records};
 ghost use Rattle.hash_rows.specs.Sequential.{sequential_table};
 ghost use Rattle.hash_rows.specs.declared.options.Sketch.TheVariants.{CountMin};
 ghost use Rattle.push_history.specs.declared.event.Event.{Event};
@@ -44,7 +45,7 @@ pub fn run_rounds<K: Kind, R: Threads + Sync>(
 ) -> Result<Settled<K>, NoMemory>
     requires lawful { IsLawful options.now }
     requires sketch { options.now.sketch ≡ K.sketch }
-    requires packets { length packets.now ≤ 16777216 }
+    requires packets { length packets.now ≤ most_records }
     ensures journal { IfOk result (λ s. IsRoundsJournal packets.now options.now (journal_of_lists options.now s.lists)) }
     ensures whole { IfOk result (λ s. IsWholeRun options.now s.lists) }
     ensures upto { IfOk result (λ s. (events : List Event) → AreRounds (terms_of packets.now options.now) options.now events
@@ -80,7 +81,7 @@ pub fn run_rounds_alone<K: Kind>(
 ) -> Result<Settled<K>, NoMemory>
     requires lawful { IsLawful options.now }
     requires sketch { options.now.sketch ≡ K.sketch }
-    requires packets { length packets.now ≤ 16777216 }
+    requires packets { length packets.now ≤ most_records }
     ensures journal { IfOk result (λ s. IsRoundsJournal packets.now options.now (journal_of_lists options.now s.lists)) }
     ensures whole { IfOk result (λ s. IsWholeRun options.now s.lists) }
     ensures upto { IfOk result (λ s. (events : List Event) → AreRounds (terms_of packets.now options.now) options.now events
@@ -119,7 +120,7 @@ fn end_run<K: Kind>(
 ) -> Result<Settled<K>, NoMemory>
     requires lawful { IsLawful options.now }
     requires sketch { options.now.sketch ≡ K.sketch }
-    requires packets { length packets.now ≤ 16777216 }
+    requires packets { length packets.now ≤ most_records }
     requires amounts { All (λ p. p.amount < 2 ^ 32) packets.now }
     requires keys { keys.now.items ≡ keys_of options.now }
     requires idle { list_any is_busy_part parts.items ≡ false }

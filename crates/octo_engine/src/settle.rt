@@ -1,6 +1,7 @@
 //! What a run comes to.
 ghost use Rattle.std.specs.Prelude.{◌≡◌, ◌^◌, ◌<◌, ◌≤◌, ℕ, All, length, IfOk, slice_index_or};
 ghost use Rattle.hash_rows.specs.Lawful.{IsLawful};
+ghost use Rattle.hash_rows.specs.Limits.{most_records};
 ghost use Rattle.hash_rows.specs.Sequential.{sequential_table};
 ghost use Rattle.push_history.specs.Journal.{terms_of};
 ghost use Rattle.octo_engine.specs.Looks.{AreAllLooks};
@@ -35,7 +36,7 @@ pub fn settle<K: Kind>(
 ) -> Result<Settled<K>, NoMemory>
     requires lawful { IsLawful options.now }
     requires sketch { options.now.sketch ≡ K.sketch }
-    requires few { length packets.now ≤ 16777216 }
+    requires few { length packets.now ≤ most_records }
     requires amounts { All (λ p. p.amount < 2 ^ 32) packets.now }
     requires end { (n : ℕ) × IsAtEnd K.stands K.rules (terms_of packets.now options.now) options.now packets.now n parts.items state
         × AreAllLooks K.rules (terms_of packets.now options.now) options.now n looks.now.items }
@@ -67,7 +68,7 @@ fn table_of<K: Kind>(
 ) -> Table<K>
     requires lawful { IsLawful options.now }
     requires sketch { options.now.sketch ≡ K.sketch }
-    requires few { length packets.now ≤ 16777216 }
+    requires few { length packets.now ≤ most_records }
     requires amounts { All (λ p. p.amount < 2 ^ 32) packets.now }
     requires end { (n : ℕ) × IsAtEnd K.stands K.rules (terms_of packets.now options.now) options.now packets.now n parts.now state }
     ensures { result ≡ sequential_table K.rules options.now.shape packets.now }

@@ -1,6 +1,7 @@
 //! What a run begins with.
 ghost use Rattle.std.specs.Prelude.{◌≡◌, ◌<◌, ◌≤◌, ◌^◌, ◌+◌, ◌*◌, ℕ, [], All, length, IfOk, OnOk};
 ghost use Rattle.hash_rows.specs.Lawful.{IsLawful};
+ghost use Rattle.hash_rows.specs.Limits.{most_records};
 ghost use Rattle.hash_rows.specs.Shapes.{size_of};
 ghost use Rattle.push_history.specs.Journal.{terms_of};
 ghost use Rattle.push_history.specs.LagRun.{Terms, fresh_worker};
@@ -28,7 +29,7 @@ pub fn parts_of<K: Kind>(
 ) -> Result<Vec<Part<K>>, NoMemory>
     requires lawful { IsLawful options.now }
     requires sketch { options.now.sketch ≡ K.sketch }
-    requires few { length packets.now ≤ 16777216 }
+    requires few { length packets.now ≤ most_records }
     ensures parts { IfOk result (λ parts. AreWorkersAfter K.stands (terms_of packets.now options.now) options.now
         packets.now 0 parts.items) }
     ensures amounts { OnOk result (All (λ p. p.amount < 2 ^ 32) packets.now) }
@@ -70,7 +71,7 @@ fn part_of<K: Kind>(
 ) -> Result<Part<K>, NoMemory>
     requires lawful { IsLawful options.now }
     requires worker { worker < options.now.workers }
-    requires few { length packets.now ≤ 16777216 }
+    requires few { length packets.now ≤ most_records }
     requires owners { AreOwners options.now packets.now owners.now }
     ensures share { IfOk result (λ part. part.share ≡ share_of_worker options.now.share options.now.workers packets.now worker) }
     ensures sound { IfOk result (λ part. IsReadyForBlock options.now (length packets.now) part) }
@@ -94,7 +95,7 @@ fn counter_of<K: Kind>(
     options: &Options,
 ) -> Result<Counter<K>, NoMemory>
     requires lawful { IsLawful options.now }
-    requires few { packets ≤ 16777216 }
+    requires few { packets ≤ most_records }
     ensures updates { IfOk result (λ counter. (counter.sketch.room ≡ options.now.shape.rows * packets) × (counter.sketch.counted ≡ 0)) }
     ensures cells { IfOk result (λ counter. length counter.sketch.held ≡ size_of options.now.shape) }
     ensures queue { IfOk result (λ counter. (counter.queue ≡ []) × (counter.taken ≡ 0) × (counter.lane ≡ options.now.lane)) }

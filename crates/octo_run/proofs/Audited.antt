@@ -10,8 +10,8 @@ use Rattle.hash_rows.specs.declared.answer.Answer.{Answer}
 use Rattle.hash_rows.specs.declared.options.Options.{Options}
 use Rattle.hash_rows.specs.declared.shape.Packet.{Packet}
 use Rattle.pcap_read.specs.Records.{Framed}
+use Rattle.hash_rows.specs.Limits.{most_records}
 use Rattle.capture_load.specs.Capture.{CaptureOf, Whole}
-use Rattle.capture_load.specs.Loads.{record_limit}
 use Rattle.capture_load.specs.Packets.{packets_of}
 use Rattle.push_history.specs.Journal.{Journal as Content, with_journal}
 use Rattle.push_history.specs.LawfulJournal.{LawfulJournal}
@@ -127,7 +127,7 @@ same_reason {S} left faults a b a' b' e e' out out' fault reason =
 
 -- the verdict on a journal that was read
 pub judged : (given behind : List ℕ) (j : Journal) (packets : List Packet) (verdict : Verdict) (frames : List Framed) (cut : ℕ) → (content_of j).options ≡ j.options
-    → IsReadText given (content_of j) behind → CaptureOf record_limit behind (Whole frames cut) → packets ≡ packets_of j.options.amount frames
+    → IsReadText given (content_of j) behind → CaptureOf most_records behind (Whole frames cut) → packets ≡ packets_of j.options.amount frames
     → ((verdict ≡ Lawful) ↔ LawfulJournal packets j.options (content_of j)) → IsVerdict packets j.options (content_of j) verdict → IsJudged given verdict
 judged given behind j packets verdict frames cut told read whole packets_are lawful is = record {
   content = content_of j;

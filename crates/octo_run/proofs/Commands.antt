@@ -2,11 +2,12 @@
 use Rattle.std.proofs.Common.{◌≡◌, ◌∙◌, inl, inr, refl, sym, ap, subst, append-nil, List, [], ℕ, ◌++◌}
 use Rattle.std.specs.Prelude.{Some}
 use Rattle.flow_base.specs.Flow.{behind, Given}
+use Rattle.hash_rows.specs.Limits.{most_records}
 use Rattle.capture_load.specs.Capture.{CaptureOf, Refused, RefusesNext}
 use Rattle.capture_load.specs.declared.capture.Refusal.{Refusal}
 use Rattle.capture_load.proofs.Once.{refusal_stays}
 use Rattle.capture_load.specs.Generated.{generated}
-use Rattle.capture_load.specs.Loads.{HoldsRefusal, record_limit}
+use Rattle.capture_load.specs.Loads.{HoldsRefusal}
 
 module _ (records start : ℕ) (before after given : List ℕ) (is : before ≡ generated records start) (front : Some before ≡ behind given (Some after)) where
   parts : given ++ after ≡ generated records start
@@ -27,5 +28,5 @@ module _ (records start : ℕ) (before after given : List ℕ) (is : before ≡ 
   load_refused bad holds = by (holds given after front refl)
     where
       by : HoldsRefusal given after bad → HoldsRefusal (generated records start) [] bad
-      by (inl r) = inl (r.0, subst (λ (g : List ℕ). RefusesNext record_limit g r.0 bad) parts (refusal_stays record_limit given after r.0 bad r.1))
-      by (inr r) = inr (refl, subst (λ (g : List ℕ). CaptureOf record_limit g (Refused bad)) (whole r.0) r.1)
+      by (inl r) = inl (r.0, subst (λ (g : List ℕ). RefusesNext most_records g r.0 bad) parts (refusal_stays most_records given after r.0 bad r.1))
+      by (inr r) = inr (refl, subst (λ (g : List ℕ). CaptureOf most_records g (Refused bad)) (whole r.0) r.1)

@@ -2,8 +2,8 @@
 use Rattle.std.proofs.Common.{◌≡◌, ◌∙◌, refl, sym, ap, ap₂, subst, ℕ, Bool, true, false, List, length, ◌++◌}
 use Rattle.capture_load.specs.Capture.{CaptureOf, Whole}
 use Rattle.pcap_read.specs.Records.{Framed}
+use Rattle.hash_rows.specs.Limits.{most_records}
 use Rattle.capture_load.proofs.Once.{one_outcome}
-use Rattle.capture_load.specs.Loads.{record_limit}
 use Rattle.capture_load.specs.Packets.{packets_of, tallies_of}
 use Rattle.hash_rows.specs.declared.options.Mode.{Mode}
 use Rattle.hash_rows.specs.declared.options.Mode.TheVariants.{Rounds}
@@ -34,9 +34,9 @@ one_report_text o p frames cut s t ask x y =
     x.text_is ∙ one_content _ _ _ cut o p x.report y.report ask x.report_is report ∙ sym y.text_is
 
 -- the frames and the cut bytes
-pub one_capture : (bytes : List ℕ) (fs gs : List Framed) (c d : ℕ) → CaptureOf record_limit bytes (Whole fs c) → CaptureOf record_limit bytes (Whole gs d) → (fs ≡ gs) × (c ≡ d)
+pub one_capture : (bytes : List ℕ) (fs gs : List Framed) (c d : ℕ) → CaptureOf most_records bytes (Whole fs c) → CaptureOf most_records bytes (Whole gs d) → (fs ≡ gs) × (c ≡ d)
 one_capture bytes fs gs c d x y =
-    let same : Whole fs c ≡ Whole gs d = one_outcome record_limit bytes (Whole fs c) (Whole gs d) x y in (cc, cc)
+    let same : Whole fs c ≡ Whole gs d = one_outcome most_records bytes (Whole fs c) (Whole gs d) x y in (cc, cc)
 
 pub one_report : (o p : Options) (bytes s t : List ℕ) → AskForOneReport o p → (a : IsRunText o bytes s) → (b : IsRunText p bytes t) → a.report ≡ b.report
 one_report o p bytes s t ask a b =

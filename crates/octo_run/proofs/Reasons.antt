@@ -8,9 +8,10 @@ use Rattle.journal_whole.proofs.NoBadLine.{not_taken}
 use Rattle.journal_whole.proofs.OneJournal.{one_front}
 use Rattle.pcap_read.specs.Records.{Framed}
 use Rattle.pcap_read.specs.declared.bad.Bad.{Bad}
+use Rattle.hash_rows.specs.Limits.{most_records}
 use Rattle.pcapng_read.specs.declared.bad.NgBad.{NgBad}
 use Rattle.capture_load.specs.Capture.{RefusesNext}
-use Rattle.capture_load.specs.Loads.{HoldsRefusal, record_limit}
+use Rattle.capture_load.specs.Loads.{HoldsRefusal}
 use Rattle.capture_load.specs.declared.capture.LoadStop.{LoadStop}
 use Rattle.capture_load.specs.declared.capture.LoadStop.TheVariants.{ReadFault as SourceStop, Bad as BadStop, Ng as NgStop, NoMemory as MemoryStop}
 use Rattle.capture_load.specs.declared.capture.Refusal.{Refusal}
@@ -18,7 +19,7 @@ use Rattle.capture_load.specs.declared.capture.Refusal.TheVariants.{Pcap, Ng}
 use Rattle.push_history.specs.Journal.{Journal}
 use Rattle.octo_run.specs.Ends.{HasReason, Side}
 use Rattle.octo_run.specs.Faults.{fault_of}
-use Rattle.octo_run.specs.Refusals.{HoldsBehind, Input, IsUnrefused, OfCapture, OfJournal, HoldsFault}
+use Rattle.octo_run.specs.Refusals.{Input, IsUnrefused, OfCapture, OfJournal, HoldsFault}
 use Rattle.octo_run.specs.declared.faults.Fault.{Fault}
 use Rattle.octo_run.specs.declared.faults.Fault.TheVariants.{Usage as UsageFault, ReadFault as SourceFault, WriteFault as SinkFault, Bad as BadFault, BadLine as LineFault, NoMemory as MemoryFault, Differs as JournalFault}
 
@@ -34,7 +35,7 @@ stop_reason input Reads IsText source source' out out' (NgStop b) rose unrefused
 stop_reason input Reads IsText source source' out out' MemoryStop rose unrefused bad ng = tt
 
 -- a refusal that stands before the end of input, whatever follows
-early : (given : List ℕ) (bad : Refusal) → HoldsRefusal given (0 ∷ []) bad → (frames : List Framed) × RefusesNext record_limit given frames bad
+early : (given : List ℕ) (bad : Refusal) → HoldsRefusal given (0 ∷ []) bad → (frames : List Framed) × RefusesNext most_records given frames bad
 early given bad (inl next) = next
 early given bad (inr ended) = absurd (let e : 0 ∷ [] ≡ [] = ended.0 in cc)
 
@@ -49,7 +50,7 @@ module _ (given rest : List ℕ) where
   accepted_capture none MemoryFault refuses = refuses
   accepted_capture none (JournalFault line kept lawful) refuses = refuses
 
-  pub unrefused_capture : ((frames : List Framed) (bad : Refusal) → RefusesNext record_limit given frames bad → ⊥) → IsUnrefused OfCapture given rest
+  pub unrefused_capture : ((frames : List Framed) (bad : Refusal) → RefusesNext most_records given frames bad → ⊥) → IsUnrefused OfCapture given rest
   unrefused_capture none UsageFault refuses = refuses []
   unrefused_capture none SourceFault refuses = refuses []
   unrefused_capture none SinkFault refuses = refuses []
@@ -94,7 +95,7 @@ module _ (given behind : List ℕ) (content : Journal) (read : IsReadText given 
   accepted_journal rest none MemoryFault refuses = refuses
   accepted_journal rest none (JournalFault line kept lawful) refuses = refuses
 
-  pub unrefused_journal : (rest : List ℕ) → ((frames : List Framed) (bad : Refusal) → RefusesNext record_limit behind frames bad → ⊥) → IsUnrefused OfJournal given rest
+  pub unrefused_journal : (rest : List ℕ) → ((frames : List Framed) (bad : Refusal) → RefusesNext most_records behind frames bad → ⊥) → IsUnrefused OfJournal given rest
   unrefused_journal rest none UsageFault refuses = refuses []
   unrefused_journal rest none SourceFault refuses = refuses []
   unrefused_journal rest none SinkFault refuses = refuses []

@@ -1,9 +1,9 @@
 -- What `audit` reads, and how it judges it.
 use Rattle.std.specs.Prelude.{◌≡◌, ◌↔◌, ℕ, List, codes}
 use Rattle.capture_load.specs.Capture.{CaptureOf, Whole}
-use Rattle.capture_load.specs.Loads.{record_limit}
 use Rattle.capture_load.specs.Packets.{packets_of}
 use Rattle.pcap_read.specs.Records.{Framed}
+use Rattle.hash_rows.specs.Limits.{most_records}
 use Rattle.hash_rows.specs.declared.shape.Packet.{Packet}
 use Rattle.push_history.specs.Journal.{Journal}
 use Rattle.push_history.specs.LawfulJournal.{LawfulJournal}
@@ -19,7 +19,7 @@ pub record AreAudited (bytes : List ℕ) (content : Journal) (packets : List Pac
   pub read : IsReadText bytes content behind
   pub frames : List Framed
   pub cut : ℕ
-  pub whole : CaptureOf record_limit behind (Whole frames cut)
+  pub whole : CaptureOf most_records behind (Whole frames cut)
   pub packets_are : packets ≡ packets_of content.options.amount frames
 
 -- the bytes are a journal that is lawful for the capture behind it, and the text is the one line that says so

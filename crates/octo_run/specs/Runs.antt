@@ -7,10 +7,10 @@ use Rattle.hash_rows.specs.declared.options.Options.{Options}
 use Rattle.hash_rows.specs.declared.shape.Packet.{Packet}
 use Rattle.flow_base.specs.declared.status.Status.{Status}
 use Rattle.flow_base.specs.declared.status.Status.TheVariants.{ReadFault}
+use Rattle.hash_rows.specs.Limits.{most_records}
 use Rattle.words.specs.declared.command.Command.{Command}
 use Rattle.words.specs.declared.command.Command.TheVariants.{Run, Load, Prefix, Epochs, Audit}
 use Rattle.capture_load.specs.Generated.{generated}
-use Rattle.capture_load.specs.Loads.{record_limit}
 use Rattle.capture_load.specs.Packets.{packets_of, tallies_of}
 use Rattle.push_history.specs.Journal.{Journal}
 use Rattle.push_history.specs.LawfulJournal.{LawfulJournal}
@@ -39,7 +39,7 @@ IsJournalText true o packets text = (journal : Journal) × LawfulJournal packets
 pub record IsRunText (o : Options) (bytes text : List ℕ) : Type 0 where
   pub frames : List Framed
   pub cut : ℕ
-  pub whole : CaptureOf record_limit bytes (Whole frames cut)
+  pub whole : CaptureOf most_records bytes (Whole frames cut)
   pub report : List ℕ
   pub report_is : IsReportText o frames cut report
   pub journal : List ℕ

@@ -1,6 +1,7 @@
 ghost use Rattle.std.specs.Prelude.{◌≡◌, ◌≢◌, ◌≤◌, ◌↔◌, ℕ, List, [], length, IfOk, OnOk, IfErr, IsErr, IsErrOf};
 ghost use Rattle.flow_base.specs.Flow.{Given, behind};
 ghost use Rattle.flow_base.specs.LinesRead.{left_of};
+ghost use Rattle.hash_rows.specs.Limits.{most_records};
 ghost use Rattle.push_history.specs.LawfulJournal.{LawfulJournal};
 ghost use Rattle.octo_text.specs.Content.{content_of};
 ghost use Rattle.octo_text.specs.Readable.{IsReadable};
@@ -33,7 +34,7 @@ fn audit_by_sketch(
     journal: &Journal,
 ) -> Result<Verdict, NoMemory>
     requires readable { IsReadable journal.now }
-    requires few { length packets.now ≤ 16777216 }
+    requires few { length packets.now ≤ most_records }
     ensures lawful { IfOk result (λ verdict. (verdict ≡ Lawful) ↔ LawfulJournal packets.now journal.now.options (content_of journal.now)) }
     ensures differs { IfOk result (λ verdict. IsVerdict packets.now journal.now.options (content_of journal.now) verdict) }
 {

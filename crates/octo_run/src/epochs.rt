@@ -1,6 +1,7 @@
 ghost use Rattle.std.specs.Prelude.{◌≡◌, ◌≢◌, ◌≤◌, ℕ, List, length, IfOk};
 ghost use Rattle.std.specs.Thread.{IsSync};
 ghost use Rattle.flow_base.specs.Flow.{Given, behind};
+ghost use Rattle.hash_rows.specs.Limits.{most_records};
 ghost use Rattle.hash_rows.specs.declared.options.Mode.{Mode};
 ghost use Rattle.epoch_run.specs.Epochs.{IsEpochs, IsEpochsRun};
 ghost use Rattle.epoch_report.specs.EpochsText.{report_text};
@@ -34,7 +35,7 @@ struct InEpochs<'a, F> {
 impl<'a, F: Fn(&Capture) -> Result<Epochs, NoMemory>> Task for InEpochs<'a, F> {
     type Results = EpochReport;
 
-    ghost ready = { λ task. ((capture : _) → length capture.now.packets.items ≤ 16777216 → F.pre task.count.now capture)
+    ghost ready = { λ task. ((capture : _) → length capture.now.packets.items ≤ most_records → F.pre task.count.now capture)
         × ((capture : _) (r : _) → F.post task.count.now capture r
         → IfOk r (λ e. IsEpochs task.size task.change task.options.now capture.now.packets.items e.epochs.items e.whole)) };
 
@@ -94,7 +95,7 @@ pub fn octo_epochs_rounds<R: Threads + Sync, S: Source, T: Sink, E: Sink>(
     ensures untouched { result ≢ Status.Done → result ≢ Status.WriteFault → out.new ≡ out.old }
 {
     let count = |capture: &Capture|
-        requires { IsSync R.row × IsEpochsRun size change options.now × (length capture.now.packets.items ≤ 16777216) }
+        requires { IsSync R.row × IsEpochsRun size change options.now × (length capture.now.packets.items ≤ most_records) }
         ensures { IfOk result (λ e. IsEpochs size change options.entry.now capture.now.packets.items e.epochs.items e.whole) }
     { epochs_rounds(rt, alloc, capture.packets.as_slice(), size, change, options) };
     let task = InEpochs {
@@ -131,7 +132,7 @@ pub fn octo_epochs_threads<R: Threads + Wait + Sync, S: Source, T: Sink, E: Sink
 {
     let count = |capture: &Capture|
         requires { IsSync R.row × IsEpochsRun size change options.now
-            × (options.now.mode ≡ Mode.Threads) × (length capture.now.packets.items ≤ 16777216) }
+            × (options.now.mode ≡ Mode.Threads) × (length capture.now.packets.items ≤ most_records) }
         ensures { IfOk result (λ e. IsEpochs size change options.entry.now capture.now.packets.items e.epochs.items e.whole) }
     {
         epochs_threads(

@@ -2,6 +2,7 @@ ghost use Rattle.std.specs.Prelude.{◌≡◌, ◌≤◌, length, IfOk};
 ghost use Rattle.flow_base.specs.Causes.{HasCause};
 ghost use Rattle.flow_base.specs.Writing.{Writes};
 ghost use Rattle.hash_rows.specs.Lawful.{IsLawful};
+ghost use Rattle.hash_rows.specs.Limits.{most_records};
 ghost use Rattle.hash_rows.specs.declared.options.Mode.{Mode};
 ghost use Rattle.hash_rows.specs.Sequential.{sequential_table};
 ghost use Rattle.push_history.specs.Journal.{journal_of_lists};
@@ -38,7 +39,7 @@ pub fn results_in_rounds<R: Threads + Sync>(
 ) -> Result<Results, NoMemory>
     requires lawful { IsLawful options.now }
     requires rounds { options.now.mode ≡ Mode.Rounds }
-    requires packets { length capture.now.packets.items ≤ 16777216 }
+    requires packets { length capture.now.packets.items ≤ most_records }
     ensures results { IfOk result (HasResults capture.now options.now) }
     ensures complete { IfOk result (IsComplete options.now) }
 {
@@ -58,7 +59,7 @@ fn rounds_by<K: Kind, R: Threads + Sync>(
     requires lawful { IsLawful options.now }
     requires sketch { options.now.sketch ≡ K.sketch }
     requires rounds { options.now.mode ≡ Mode.Rounds }
-    requires packets { length capture.now.packets.items ≤ 16777216 }
+    requires packets { length capture.now.packets.items ≤ most_records }
     ensures results { IfOk result (HasResults capture.now options.now) }
     ensures complete { IfOk result (IsComplete options.now) }
 {
@@ -75,7 +76,7 @@ pub fn results_from<K: Kind>(
 ) -> Result<Results, NoMemory>
     requires lawful { IsLawful options.now }
     requires sketch { options.now.sketch ≡ K.sketch }
-    requires packets { length capture.now.packets.items ≤ 16777216 }
+    requires packets { length capture.now.packets.items ≤ most_records }
     requires table { settled.table ≡ sequential_table K.rules options.now.shape capture.now.packets.items }
     requires journal { LawfulJournal capture.now.packets.items options.now (journal_of_lists options.now settled.lists) }
     requires whole { IsWholeRun options.now settled.lists }

@@ -2,6 +2,7 @@ ghost use Rattle.std.specs.Prelude.{◌≡◌, ◌≤◌, ℕ, List, length, IfO
 ghost use Rattle.capture_load.specs.Loads.{IsLoaded};
 ghost use Rattle.flow_base.specs.Causes.{HasCause};
 ghost use Rattle.flow_base.specs.Writing.{Writes};
+ghost use Rattle.hash_rows.specs.Limits.{most_records};
 ghost use Rattle.hash_rows.specs.declared.options.Amount.{Amount as AmountValue};
 
 use capture_load::Capture;
@@ -33,7 +34,7 @@ pub trait Task {
 
     fn results(&self, alloc: Global, capture: &Capture) -> Result<Self::Results, NoMemory>
         requires ready { ready self.now }
-        requires packets { length capture.now.packets.items ≤ 16777216 }
+        requires packets { length capture.now.packets.items ≤ most_records }
         ensures fits { IfOk result (fits self.now) }
         ensures tells { IfOk result (λ results. (bytes : List ℕ) → IsLoaded (amount self.now) bytes capture.now
             → is_text self.now bytes (text self.now results)) };

@@ -2,6 +2,7 @@ ghost use Rattle.std.specs.Prelude.{◌≡◌, ◌≢◌, ◌≤◌, ℕ, List, 
 ghost use Rattle.std.specs.Thread.{IsSync};
 ghost use Rattle.flow_base.specs.Flow.{Given, behind};
 ghost use Rattle.hash_rows.specs.Lawful.{IsLawful};
+ghost use Rattle.hash_rows.specs.Limits.{most_records};
 ghost use Rattle.hash_rows.specs.declared.options.Mode.{Mode};
 ghost use Rattle.octo_run.specs.Ends.{IsEnd, side};
 ghost use Rattle.octo_run.specs.Refusals.{OfCapture};
@@ -32,7 +33,7 @@ pub fn results_in_threads<R: Threads + Wait + Sync, G: Gate>(
 ) -> Result<Results, NoMemory>
     requires lawful { IsLawful options.now }
     requires threads { options.now.mode ≡ Mode.Threads }
-    requires packets { length capture.now.packets.items ≤ 16777216 }
+    requires packets { length capture.now.packets.items ≤ most_records }
     ensures results { IfOk result (HasResults capture.now options.now) }
     ensures complete { IfOk result (IsComplete options.now) }
 {
@@ -53,7 +54,7 @@ fn threads_by<K: Kind, R: Threads + Wait + Sync, G: Gate>(
     requires lawful { IsLawful options.now }
     requires sketch { options.now.sketch ≡ K.sketch }
     requires threads { options.now.mode ≡ Mode.Threads }
-    requires packets { length capture.now.packets.items ≤ 16777216 }
+    requires packets { length capture.now.packets.items ≤ most_records }
     ensures results { IfOk result (HasResults capture.now options.now) }
     ensures complete { IfOk result (IsComplete options.now) }
 {
@@ -79,7 +80,7 @@ struct CountedBy<'a, F> {
 impl<'a, F: Fn(&Capture) -> Result<Results, NoMemory>> Task for CountedBy<'a, F> {
     type Results = Results;
 
-    ghost ready = { λ task. ((capture : _) → length capture.now.packets.items ≤ 16777216 → F.pre task.count.now capture)
+    ghost ready = { λ task. ((capture : _) → length capture.now.packets.items ≤ most_records → F.pre task.count.now capture)
         × ((capture : _) (r : _) → F.post task.count.now capture r
         → IfOk r (HasResults capture.now task.options.now) × IfOk r (IsComplete task.options.now)) };
 
@@ -126,7 +127,7 @@ pub fn octo_threads<R: Threads + Wait + Sync, S: Source, T: Sink, E: Sink, G: Ga
     ensures untouched { result ≢ Status.Done → result ≢ Status.WriteFault → out.new ≡ out.old }
 {
     let count = |capture: &Capture|
-        requires { IsSync R.row × IsLawful options.now × (options.now.mode ≡ Mode.Threads) × (length capture.now.packets.items ≤ 16777216) }
+        requires { IsSync R.row × IsLawful options.now × (options.now.mode ≡ Mode.Threads) × (length capture.now.packets.items ≤ most_records) }
         ensures results { IfOk result (HasResults capture.now options.entry.now) }
         ensures complete { IfOk result (IsComplete options.entry.now) }
     { results_in_threads(rt, alloc, capture, options, gate) };

@@ -1,5 +1,5 @@
 -- What a journal tells.
-use Rattle.std.specs.Prelude.{◌≡◌, ℕ, length, ◌≤◌, All}
+use Rattle.std.specs.Prelude.{◌≡◌, length, ◌≤◌, All}
 use Rattle.hash_rows.specs.declared.answer.Answer.{Answer}
 use Rattle.hash_rows.specs.declared.options.Options.{Options}
 use Rattle.hash_rows.specs.Lawful.{IsLawful}

@@ -1,4 +1,5 @@
 ghost use Rattle.std.specs.Prelude.{◌≡◌, ◌≤◌, ◌<◌, ◌^◌, length};
+ghost use Rattle.hash_rows.specs.Limits.{most_records};
 ghost use Rattle.prefix_report.specs.Reports.{ipv4_amount, ipv4_total, other_count};
 
 use hash_rows::Packet;
@@ -19,7 +20,7 @@ fn ipv4_amount(packet: &Packet) -> u64
 /// The sum of the amounts of the IPv4 packets.
 #[tactic(auto, unfolding(crate::specs::Reports::ipv4_total))]
 pub(crate) fn ipv4_total(packets: &[Packet]) -> u64
-    requires { length packets.now ≤ 16777216 }
+    requires { length packets.now ≤ most_records }
     ensures { result ≡ ipv4_total packets.now }
 {
     let mut total = 0;
@@ -32,7 +33,7 @@ pub(crate) fn ipv4_total(packets: &[Packet]) -> u64
 /// How many packets have an IPv6 key.
 #[tactic(auto, unfolding(crate::specs::Reports::other_count))]
 pub(crate) fn other_count(packets: &[Packet]) -> u64
-    requires { length packets.now ≤ 16777216 }
+    requires { length packets.now ≤ most_records }
     ensures { result ≡ other_count packets.now }
 {
     let mut count = 0;

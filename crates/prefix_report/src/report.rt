@@ -1,4 +1,5 @@
 ghost use Rattle.std.specs.Prelude.{◌≡◌, ◌≤◌, All, length, IfOk};
+ghost use Rattle.hash_rows.specs.Limits.{most_records};
 ghost use Rattle.prefixes.specs.Networks.{IsNetwork};
 ghost use Rattle.prefix_stack.specs.Descent.{IsFound};
 ghost use Rattle.prefix_stack.specs.Levels.{level_tables};
@@ -49,7 +50,7 @@ pub fn report_of(
     watch: &[Prefix],
     stack: Stack,
 ) -> Result<PrefixReport, NoMemory>
-    requires few { length packets.now ≤ 16777216 }
+    requires few { length packets.now ≤ most_records }
     requires most { length watch.now ≤ 16 }
     requires watch { All IsNetwork watch.now }
     requires tables { stack.tables.items ≡ level_tables options.now.shape packets.now }

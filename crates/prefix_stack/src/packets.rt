@@ -1,4 +1,5 @@
 ghost use Rattle.std.specs.Prelude.{◌≡◌, ◌<◌, ◌≤◌, ◌+◌, ◌++◌, length, IfOk};
+ghost use Rattle.hash_rows.specs.Limits.{most_records};
 ghost use Rattle.prefixes.specs.Networks.{IsLength};
 ghost use Rattle.prefix_stack.specs.Levels.{level_packets, network_packets};
 
@@ -31,7 +32,7 @@ fn add_packet(level: &mut Packets, bits: u32, packet: &Packet)
 /// Each IPv4 packet in order, as one of its source's network of so many bits.
 pub fn level_packets(alloc: Global, packets: &[Packet], bits: u32) -> Result<Packets, NoMemory>
     requires bits { IsLength bits }
-    requires few { length packets.now ≤ 16777216 }
+    requires few { length packets.now ≤ most_records }
     ensures items { IfOk result (λ level. level.items ≡ level_packets bits packets.now) }
     ensures few { IfOk result (λ level. length level.items ≤ length packets.now) }
 {

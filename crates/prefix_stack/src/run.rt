@@ -1,4 +1,5 @@
 ghost use Rattle.std.specs.Prelude.{◌≡◌, ◌<◌, ◌≤◌, ◌+◌, ◌++◌, ◌∷◌, [], All, length, map, IfOk};
+ghost use Rattle.hash_rows.specs.Limits.{most_records};
 ghost use Rattle.prefixes.specs.Networks.{AreWatched, IsLength, IsNetwork, prefix_key};
 ghost use Rattle.prefix_stack.specs.Descent.{IsFound, MissesNone};
 ghost use Rattle.prefix_stack.specs.Levels.{level_packets, level_table, level_tables};
@@ -87,7 +88,7 @@ fn run_level<R: Threads + Sync>(
     bits: u32,
 ) -> Result<(Table<CountMin>, Answers), NoMemory>
     requires options { IsStackRun options.now }
-    requires few { length packets.now ≤ 16777216 }
+    requires few { length packets.now ≤ most_records }
     requires watch { AreWatched watch.now }
     requires bits { IsLength bits }
     ensures table { IfOk result (λ level. level.0 ≡ level_table options.now.shape packets.now bits) }
@@ -110,7 +111,7 @@ pub fn run_levels<R: Threads + Sync>(
     watch: &[Prefix],
 ) -> Result<Stack, NoMemory>
     requires options { IsStackRun options.now }
-    requires few { length packets.now ≤ 16777216 }
+    requires few { length packets.now ≤ most_records }
     requires watch { AreWatched watch.now }
     ensures tables { IfOk result (λ s. s.tables.items ≡ level_tables options.now.shape packets.now) }
     ensures answers { IfOk result (λ s. HaveAnswers packets.now options.now watch.now 4 s.answers.items) }

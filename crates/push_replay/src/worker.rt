@@ -1,4 +1,5 @@
 ghost use Rattle.std.specs.Prelude.{◌≡◌, ◌<◌, ◌≤◌, ◌+◌, ◌*◌, ◌++◌, ℕ, List, All, length, map, IfOk, OnOk, None, slice_index_or, false};
+ghost use Rattle.hash_rows.specs.Limits.{most_records};
 ghost use Rattle.hash_rows.specs.Marks.{marked};
 ghost use Rattle.hash_rows.specs.Shapes.{IsShape, size_of};
 ghost use Rattle.hash_rows.specs.Sketches.{rows_of};
@@ -24,7 +25,7 @@ pub fn replay_worker<K: Kind>(
 ) -> Result<Replay<K>, NoMemory>
     requires shape { IsShape options.now.shape }
     requires threshold { 1 ≤ options.now.threshold }
-    requires few { length positions.now ≤ 16777216 }
+    requires few { length positions.now ≤ most_records }
     requires within { All (λ i. i < length packets.now) positions.now }
     ensures tells { IfOk result (λ replay. Tells K.stands K.rules worker options.now.threshold (marked refused.now)
         (updates_of K.rules options.now.shape packets.now positions.now) replay) }

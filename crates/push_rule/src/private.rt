@@ -102,6 +102,8 @@ impl<K: Kind> Private<K> {
     }
 
     /// Whether counting this update would make a push due.
+    #[cold]
+    #[inline(never)]
     pub fn due_with(&self, cell: u32, value: i64) -> bool
         requires idle { self.now.due ≡ None }
         requires room { self.now.counted < self.now.room }
@@ -156,8 +158,9 @@ impl<K: Kind> Private<K> {
         ensures threshold { self.new.threshold ≡ self.old.threshold }
         ensures room { self.new.room ≡ self.old.room }
     {
-        self.bits.set(self.room - self.cells.left());
+        let update = self.room - self.cells.left();
         self.cells.keep_due();
+        self.bits.set(update);
     }
 
     /// What was counted of the cell and not told.

@@ -1,5 +1,5 @@
 -- A set has one list in a strict order.
-use Rattle.std.proofs.Common.{◌≡◌, ◌∙◌, ◌<◌, ◌⊎◌, inl, inr, refl, sym, subst, arith, List, [], ◌∷◌, length, suc, AllPairs}
+use Rattle.std.proofs.Common.{◌≡◌, ◌∙◌, ◌⊎◌, inl, inr, refl, sym, subst, arith, List, [], ◌∷◌, suc, AllPairs}
 use Rattle.heavy_keys.proofs.Members.{Has, contains_from}
 
 module _ {X : Type 0} (R : X → X → Type 0) (strict : (a b : X) → R a b → R b a → ⊥) where

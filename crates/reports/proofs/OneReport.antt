@@ -1,8 +1,7 @@
 -- A capture has one report.
-use Rattle.std.proofs.Common.{◌≡◌, ◌∙◌, ◌⊎◌, inl, inr, refl, sym, ap, subst, arith, ℕ, ℤ, List, [], map, length, take, Option, Some, None, ◌≤ℤ◌, ◌++◌, codes, flat_map}
+use Rattle.std.proofs.Common.{◌≡◌, ◌∙◌, inl, inr, refl, sym, ap, subst, arith, ℕ, ℤ, List, length, take, Option, Some, None, ◌≤ℤ◌, ◌++◌, codes, flat_map}
 use Rattle.std.proofs.lemmas.Int.{ints}
 use Rattle.std.specs.Ordering.{ordering_reverse}
-use Rattle.std.specs.declared.cmp.Ordering.{Ordering}
 use Rattle.std.specs.declared.cmp.Ordering.TheVariants.{Less, Greater}
 use Rattle.packet_key.specs.contracts.key.FlowKeyOrd.TheImpl.Laws.{total-law}
 use Rattle.packet_key.specs.declared.key.FlowKey.{FlowKey}

@@ -1,4 +1,5 @@
 ghost use Rattle.std.specs.Prelude.{◌≡◌, ◌≤◌, length, IfOk};
+ghost use Rattle.hash_rows.specs.Limits.{most_records};
 ghost use Rattle.hash_rows.specs.Sequential.{sequential_table};
 ghost use Rattle.reports.specs.ReportOf.{IsReport, Reports};
 
@@ -20,7 +21,7 @@ pub fn report_of<K: Kind>(
     options: &Options,
     table: &Table<K>,
 ) -> Result<Report, NoMemory>
-    requires few { length packets.now ≤ 16777216 }
+    requires few { length packets.now ≤ most_records }
     requires sketch { options.now.sketch ≡ K.sketch }
     ensures tells { IfOk result (λ report. Reports K.rules table.now packets.now records skipped cut options.now report) }
     ensures sequential { IfOk result (λ report. table.now ≡ sequential_table K.rules options.now.shape packets.now

@@ -1,5 +1,6 @@
 ghost use Rattle.std.specs.Prelude.{◌≡◌, ◌≤◌, length, map, IfOk};
 ghost use Rattle.hash_rows.specs.Amounts.{total_amount};
+ghost use Rattle.hash_rows.specs.Limits.{most_records};
 ghost use Rattle.hash_rows.specs.Sketches.{rows_of};
 ghost use Rattle.hash_rows.specs.Tables.{used_in};
 
@@ -11,7 +12,7 @@ use std::alloc::Global;
 /// The sum of all amounts.
 #[tactic(auto, unfolding(hash_rows::specs::Amounts::total_amount))]
 pub fn total_of(packets: &[Packet]) -> u64
-    requires { length packets.now ≤ 16777216 }
+    requires { length packets.now ≤ most_records }
     ensures { result ≡ total_amount packets.now }
 {
     let mut total = 0;

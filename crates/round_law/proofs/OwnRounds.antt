@@ -1,8 +1,8 @@
 -- A run in rounds, worker by worker.
-use Rattle.std.proofs.Common.{◌≡◌, ◌<◌, ℕ, zero, suc, ◌+◌, List, [], ◌++◌, length, get_or, replicate, false, refl, sym, ap, ◌∙◌, subst, arith}
+use Rattle.std.proofs.Common.{◌≡◌, ◌<◌, ℕ, zero, suc, ◌+◌, [], ◌++◌, length, get_or, replicate, false, refl, sym, ap, ◌∙◌, subst, arith}
 use Rattle.std.specs.List.{flat_map, range_with_len}
 use Rattle.std.proofs.lemmas.List.Folds.{list_any_none}
-use Rattle.std.proofs.lemmas.List.FromFn.{length-map-range_with_len, get_or-map-range_with_len, get_or-range_with_len, length-range_with_len}
+use Rattle.std.proofs.lemmas.List.FromFn.{get_or-range_with_len, length-range_with_len}
 use Rattle.hash_rows.specs.declared.options.Options.{Options}
 use Rattle.push_history.specs.LagRun.{Terms, Worker, worker_in, fresh_worker, lag_run, start}
 use Rattle.push_history.specs.LawfulRun.{IsLawfulState}

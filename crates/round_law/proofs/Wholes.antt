@@ -1,9 +1,8 @@
 -- What an outcome tells of, and how its answers match their fronts.
-use Rattle.std.proofs.Common.{◌≡◌, ◌<◌, ◌≤◌, ℕ, zero, suc, ◌+◌, ◌-◌, ◌==◌, pos, List, length, take, Bool, if◌then◌else◌, refl, sym, ap, ◌∙◌, arith}
+use Rattle.std.proofs.Common.{◌≡◌, ◌<◌, ℕ, ◌+◌, ◌-◌, List, length, Bool, sym, ap, ◌∙◌, arith}
 use Rattle.std.specs.Prelude.{All, map, min}
 use Rattle.std.specs.List.{zip}
-use Rattle.std.proofs.lemmas.List.{get_or-map, get_or-take, length-map}
-use Rattle.std.proofs.lemmas.List.FromFn.{length-map-range_with_len}
+use Rattle.std.proofs.lemmas.List.{get_or-map, length-map}
 use Rattle.packet_key.specs.declared.key.FlowKey.{FlowKey}
 use Rattle.hash_rows.specs.declared.answer.Answer.{Answer}
 use Rattle.hash_rows.specs.declared.options.Options.{Options}
@@ -14,7 +13,6 @@ use Rattle.push_history.specs.Journal.{keys_of}
 use Rattle.push_history.specs.LagRun.{Terms, Worker, State, fresh_worker, lag_run, worker_in}
 use Rattle.round_law.specs.RoundStates.{round_state}
 use Rattle.push_history.specs.Rounds.{AreRounds}
-use Rattle.push_history.specs.Share.{zero_key}
 use Rattle.push_history.specs.Shown.{told_cells}
 use Rattle.push_history.proofs.MoreMessages.{front_len, upto_firsts}
 use Rattle.bracket.proofs.Counted.{messages_in}

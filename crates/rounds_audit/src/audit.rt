@@ -1,4 +1,5 @@
 ghost use Rattle.std.specs.Prelude.{◌≡◌, ◌↔◌, ◌≤◌, length, IfOk};
+ghost use Rattle.hash_rows.specs.Limits.{most_records};
 ghost use Rattle.hash_rows.specs.declared.options.Mode.TheVariants.{Rounds};
 ghost use Rattle.push_history.specs.LawfulJournal.{LawfulJournal};
 ghost use Rattle.octo_text.specs.Content.{content_of};
@@ -25,7 +26,7 @@ pub fn audit_rounds<K: Kind>(
 ) -> Result<Verdict, NoMemory>
     requires readable { IsReadable journal.now }
     requires sketch { journal.now.options.sketch ≡ K.sketch }
-    requires few { length packets.now ≤ 16777216 }
+    requires few { length packets.now ≤ most_records }
     requires rounds { journal.now.options.mode ≡ Rounds }
     ensures lawful { IfOk result (λ verdict. (verdict ≡ Lawful) ↔ LawfulJournal packets.now journal.now.options (content_of journal.now)) }
     ensures differs { IfOk result (λ verdict. IsRoundsVerdict packets.now journal.now.options (content_of journal.now) verdict) }

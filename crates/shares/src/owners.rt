@@ -1,5 +1,6 @@
 ghost use Rattle.std.specs.Prelude.{◌≡◌, ◌<◌, ◌≤◌, ◌^◌, ◌==◌, ◌+◌, ℕ, All, length, map, filter, IfOk, true, if◌then◌else◌, ◌++◌, ◌∷◌, [], slice_index_or};
 ghost use Rattle.std.specs.List.{range_with_len};
+ghost use Rattle.hash_rows.specs.Limits.{most_records};
 ghost use Rattle.hash_rows.specs.declared.options.Share.TheVariants.{Key};
 ghost use Rattle.push_history.specs.Share.{share_of_worker, worker_of};
 ghost use Rattle.shares.specs.Owners.{AreOwners};
@@ -23,7 +24,7 @@ pub enum Owners {
 /// Who owns each packet. Only the owners by key are listed.
 pub fn owners_of(alloc: Global, packets: &[Packet], options: &Options) -> Result<Owners, NoMemory>
     requires workers { 0 < options.now.workers }
-    requires few { length packets.now ≤ 16777216 }
+    requires few { length packets.now ≤ most_records }
     ensures { IfOk result (λ owners. AreOwners options.now packets.now owners) }
 {
     match options.share {
@@ -35,7 +36,7 @@ pub fn owners_of(alloc: Global, packets: &[Packet], options: &Options) -> Result
 // The worker of each packet by its key.
 fn owners_by_key(alloc: Global, packets: &[Packet], workers: u32) -> Result<Listed<u32>, NoMemory>
     requires some { 0 < workers }
-    requires few { length packets.now ≤ 16777216 }
+    requires few { length packets.now ≤ most_records }
     ensures { IfOk result (λ owners. owners.items ≡ map (worker_of Key workers packets.now) (range_with_len 0 (length packets.now))) }
 {
     let count = packets.len() as u32;
@@ -57,7 +58,7 @@ pub fn positions_of(
 ) -> Result<Positions, NoMemory>
     requires worker { worker < options.now.workers }
     requires workers { options.now.workers ≤ 16 }
-    requires few { length packets.now ≤ 16777216 }
+    requires few { length packets.now ≤ most_records }
     requires owners { AreOwners options.now packets.now owners.now }
     ensures share { IfOk result (λ share. share ≡ share_of_worker options.now.share options.now.workers packets.now worker) }
     ensures rising { IfOk result (λ share. AreRising (length packets.now) share) }

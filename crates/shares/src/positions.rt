@@ -1,5 +1,6 @@
 ghost use Rattle.std.specs.Prelude.{◌≡◌, ◌<◌, ◌≤◌, ◌%◌, ◌==◌, length, filter, slice_index_or};
 ghost use Rattle.std.specs.List.{range_with_len};
+ghost use Rattle.hash_rows.specs.Limits.{most_records};
 
 use listed::Listed;
 use std::marker::Model;
@@ -34,7 +35,7 @@ impl Positions {
     pub fn of_turn(worker: u32, workers: u32, packets: u32) -> Positions
         requires worker { worker < workers }
         requires workers { workers ≤ 16 }
-        requires few { packets ≤ 16777216 }
+        requires few { packets ≤ most_records }
         ensures { result ≡ filter (λ i. i % workers == worker) (range_with_len 0 packets) }
     {
         let count = (packets + (workers - 1 - worker)) / workers;

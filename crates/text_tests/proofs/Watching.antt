@@ -1,5 +1,5 @@
 -- Two networks as watched ones.
-use Rattle.std.proofs.Common.{◌≡◌, ◌≢◌, ◌<◌, ℕ, zero, suc, List, [], ◌∷◌, All, arith}
+use Rattle.std.proofs.Common.{◌≢◌, zero, suc, [], ◌∷◌, All, arith}
 use Rattle.std.specs.Prelude.{AllPairs}
 use Rattle.prefixes.specs.declared.network.Prefix.{Prefix}
 use Rattle.prefixes.specs.Networks.{AreWatched, IsNetwork}

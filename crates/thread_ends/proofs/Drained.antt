@@ -1,5 +1,5 @@
 -- One more message of a lane that is drained.
-use Rattle.std.proofs.Common.{inl, inr, ◌+◌, ◌≡◌, ◌≢◌, ◌<◌, ◌≤◌, ℕ, zero, suc, true, List, [], ◌∷◌, ◌++◌, length, map, set, get_or, refl, sym, ap, subst, ◌∙◌, arith, append_assoc, append-nil, slice_get}
+use Rattle.std.proofs.Common.{inl, inr, ◌+◌, ◌≡◌, ◌≢◌, ◌<◌, ◌≤◌, ℕ, zero, suc, true, List, [], ◌∷◌, ◌++◌, length, set, get_or, refl, sym, ap, subst, ◌∙◌, arith, append_assoc, slice_get}
 use Rattle.std.specs.Prelude.{All, Some, None, Option, MatchOption, Result, Ok, Err, OnErr}
 use Rattle.std.proofs.Math.Seq.{map-set_same}
 use Rattle.std.proofs.lemmas.List.{map-set, get_or-map, get_or-set_other, get_or-set_same, get_or_push, get_or_append_left, length-map, length-append, length_push, ext_get_or}
@@ -15,7 +15,7 @@ use Rattle.push_lane.specs.Rule.{StartsWith}
 use Rattle.push_lane.specs.Views.{BothView, LaneView}
 use Rattle.aggregate.specs.Takens.{AreNamed, AreTaken, taken_at}
 use Rattle.aggregate.proofs.Grown.{taken_more}
-use Rattle.thread_ends.specs.Ends.{AreOf, HasAll, HaveOrder, KeepLists, KeepsPublished, both_fulls, both_sents, both_takens, kept_in, with_message}
+use Rattle.thread_ends.specs.Ends.{AreOf, HasAll, HaveOrder, KeepLists, KeepsPublished, both_sents, both_takens, kept_in, with_message}
 use Rattle.thread_ends.proofs.Joined.{both_id, lane_id}
 
 abbrev IsInOrder : BothView → Type 0

@@ -1,15 +1,15 @@
 -- One more lane whose two ends are one.
 use Rattle.std.proofs.Common.{◌≡◌, ◌<◌, ◌≤◌, ◌+◌, ℕ, suc, List, [], ◌∷◌, ◌++◌, length, map, get_or, drop, drop-cons, add-one, refl, sym, ap, ap₂, ◌∙◌, arith, append_assoc, append-nil}
 use Rattle.std.proofs.Math.ListN.{drop_of_length-le}
-use Rattle.std.proofs.lemmas.List.{map-append, length_push, length-map, length-drop}
+use Rattle.std.proofs.lemmas.List.{map-append, length_push}
 use Rattle.std.proofs.lemmas.List.Elements.{All-push}
 use Rattle.push_lane.specs.Rule.{StartsWith}
-use Rattle.push_lane.specs.Views.{BothView, InView, LaneView, OutView, TableId}
+use Rattle.push_lane.specs.Views.{BothView, LaneView, OutView, TableId}
 use Rattle.push_rule.specs.Stands.{PrivateView}
 use Rattle.aggregate.specs.Takens.{ArePassesOf, takens}
 use Rattle.hash_rows.specs.declared.shape.Push.{Push}
 use Rattle.thread_run.specs.declared.parts.WorkerPart.{WorkerPart}
-use Rattle.thread_ends.specs.Ends.{AreOf, AreOne, HaveOrder, IsOne, both_fulls, both_sents, both_takens}
+use Rattle.thread_ends.specs.Ends.{AreOne, HaveOrder, IsOne, both_fulls, both_sents, both_takens}
 
 abbrev pub lane_id : LaneView → TableId
 lane_id l = l.id

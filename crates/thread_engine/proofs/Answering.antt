@@ -1,6 +1,6 @@
 -- The answers of all readers are those of beginnings of what was published.
-use Rattle.std.proofs.Common.{◌≡◌, ◌<◌, ◌≤◌, ◌^◌, ℕ, zero, suc, ◌+◌, ◌*◌, ℤ, List, [], ◌∷◌, ◌++◌, length, take, get_or, Some, true, refl, sym, ap, ◌∙◌, subst, arith}
-use Rattle.std.specs.Prelude.{All, map, slice_get}
+use Rattle.std.proofs.Common.{◌≡◌, ◌<◌, ◌≤◌, ◌^◌, ℕ, zero, suc, ◌+◌, ◌*◌, ℤ, List, [], ◌∷◌, ◌++◌, length, take, get_or, true, sym, ap, ◌∙◌, subst, arith}
+use Rattle.std.specs.Prelude.{map}
 use Rattle.std.specs.List.{flat_map}
 use mathlib.Core.List.{IsPrefix}
 use Rattle.std.proofs.lemmas.List.{get_or-append-add, length-append, length-take, take-append-le}
@@ -12,17 +12,15 @@ use Rattle.hash_rows.specs.declared.options.Options.{Options}
 use Rattle.hash_rows.specs.declared.shape.Push.{Push}
 use Rattle.hash_rows.specs.declared.shape.Shape.{Shape}
 use Rattle.hash_rows.specs.Rules.{Rules}
-use Rattle.push_history.specs.Front.{front_of, uptos_of}
 use Rattle.push_history.specs.Journal.{keys_of, rules_in}
 use Rattle.push_history.specs.Looks.{IsLook}
-use Rattle.push_history.specs.Shown.{told_cells}
 use Rattle.live_state.specs.Copies.{IsCopyOf}
 use Rattle.live_state.specs.Fold.{Fit, StateView, fits, most, state_after, layout_in}
 use Rattle.live_state.specs.Shows.{Shows}
 use Rattle.live_state.specs.declared.layout.Layout.{Layout}
 use Rattle.live_state.proofs.Live.{shows_all}
 use Rattle.live_view.specs.Views.{ReaderView}
-use Rattle.thread_law.specs.Ran.{AreAnswers, IsAnswer, IsAnswerNumber}
+use Rattle.thread_law.specs.Ran.{AreAnswers, IsAnswerNumber}
 use Rattle.thread_engine.specs.Readers.{HasSeen}
 
 -- the items of lists of one length, one list after another

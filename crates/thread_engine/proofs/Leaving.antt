@@ -1,10 +1,9 @@
 -- What the parts of a run leave is what settling asks for.
-use Rattle.std.proofs.Common.{◌≡◌, ◌<◌, ◌≤◌, ◌^◌, ℕ, ℤ, ◌*◌, ◌++◌, Bool, false, List, [], length, get_or, refl, sym, ap, ◌∙◌, subst, arith, append-nil}
+use Rattle.std.proofs.Common.{◌≡◌, ◌<◌, ◌^◌, ℕ, ℤ, ◌*◌, ◌++◌, false, List, length, get_or, sym, ap, ◌∙◌, subst, arith, append-nil}
 use Rattle.std.specs.Prelude.{All, None, Option, map}
 use Rattle.std.specs.List.{flat_map}
 use mathlib.Core.List.{IsPrefix}
 use Rattle.packet_key.specs.declared.key.FlowKey.{FlowKey}
-use Rattle.hash_rows.specs.declared.answer.Answer.{Answer}
 use Rattle.hash_rows.specs.declared.options.Options.{Options}
 use Rattle.hash_rows.specs.declared.shape.Packet.{Packet}
 use Rattle.hash_rows.specs.declared.shape.Push.{Push}
@@ -14,10 +13,8 @@ use Rattle.push_history.specs.Journal.{keys_of, rules_in}
 use Rattle.push_lane.specs.Views.{LaneView}
 use Rattle.aggregate.specs.Sweeps.{AggregatorView, kept_by, listed_held}
 use Rattle.aggregate.specs.Takens.{AreNamed, AreTaken, takens}
-use Rattle.live_state.specs.Copies.{HasRoomFor}
 use Rattle.live_state.specs.Fold.{Fit, layout_in}
 use Rattle.live_state.specs.declared.layout.Layout.{Layout}
-use Rattle.live_view.specs.Views.{ReaderView}
 use Rattle.thread_ends.specs.Ends.{kept_in}
 use Rattle.thread_law.specs.Ran.{AreAnswers}
 use Rattle.thread_run.specs.Readers.{AreAsked, HasAsked}

@@ -1,6 +1,7 @@
 //! A run in threads.
 ghost use Rattle.std.specs.Prelude.{◌≡◌, ◌≤◌, All, length, IfOk};
 ghost use Rattle.hash_rows.specs.Lawful.{IsLawful};
+ghost use Rattle.hash_rows.specs.Limits.{most_records};
 ghost use Rattle.hash_rows.specs.Sequential.{sequential_table};
 ghost use Rattle.hash_rows.specs.declared.options.Mode.TheVariants.{Threads as InThreads};
 ghost use Rattle.hash_rows.specs.declared.options.Sketch.TheVariants.{CountMin};
@@ -47,7 +48,7 @@ pub fn run_threads<K: Kind, R: Threads + Wait + Sync, G: Gate>(
     requires lawful { IsLawful options.now }
     requires sketch { options.now.sketch ≡ K.sketch }
     requires mode { options.now.mode ≡ InThreads }
-    requires packets { length packets.now ≤ 16777216 }
+    requires packets { length packets.now ≤ most_records }
     ensures drained { IfOk result (λ r. AreDrained options.now r.lanes.items r.passes.items r.settled.lists.refused.items) }
     ensures ran { IfOk result (λ r. HasRunTo packets.now options.now (both_sents r.passes.items) r.writer.published r.settled.lists) }
     ensures journal { IfOk result (λ r. LawfulJournal packets.now options.now (journal_of_lists options.now r.settled.lists)) }

@@ -1,6 +1,7 @@
 //! All parts of a run, beside each other.
 ghost use Rattle.std.specs.Prelude.{◌≡◌, ◌≤◌, length, IfOk, OnErr};
 ghost use Rattle.std.specs.Thread.{IsSync};
+ghost use Rattle.hash_rows.specs.Limits.{most_records};
 ghost use Rattle.hash_rows.specs.Shapes.{IsShape};
 ghost use Rattle.hash_rows.specs.declared.options.Full.TheVariants.{Wait as PushesWait};
 ghost use Rattle.aggregate.specs.Takens.{ArePassesOf};
@@ -34,7 +35,7 @@ fn run_parts<K: Kind, R: Threads + Wait + Sync, G: Gate>(
     rest: &mut RestPart<K>,
 )
     requires shape { IsShape options.now.shape }
-    requires few { length packets.now ≤ 16777216 }
+    requires few { length packets.now ≤ most_records }
     requires lanes { length lanes.now ≤ 65536 }
     requires len { length crew.old.workers.items ≡ length lanes.now }
     requires ready { AreReady K.stands K.rules options.now packets.now lanes.now crew.old.workers.items }
@@ -57,7 +58,7 @@ fn run_parts<K: Kind, R: Threads + Wait + Sync, G: Gate>(
             ensures { IsRestDone K.rules keys.entry.now lanes.entry.now rest.entry.now rest.exit.now }
         { fold_beside(rt, keys, gate, lanes, marks, rest) },
         &|_: usize, crew: &mut Crew<K>|
-            requires { IsSync R.row × IsShape options.now.shape × (length packets.now ≤ 16777216) × (length lanes.now ≤ 65536)
+            requires { IsSync R.row × IsShape options.now.shape × (length packets.now ≤ most_records) × (length lanes.now ≤ 65536)
                 × (length crew.now.workers.items ≡ length lanes.now)
                 × AreReady K.stands K.rules options.now packets.now lanes.now crew.now.workers.items }
             ensures { IsCrewDone K.stands K.rules options.entry.now packets.entry.now lanes.entry.now crew.entry.now crew.exit.now }
@@ -82,7 +83,7 @@ pub fn run_beside<K: Kind, R: Threads + Wait + Sync, G: Gate>(
     rest: &mut RestPart<K>,
 ) -> Result<Vec<WorkerPart<K>>, NoMemory>
     requires shape { IsShape options.now.shape }
-    requires few { length packets.now ≤ 16777216 }
+    requires few { length packets.now ≤ most_records }
     requires lanes { length lanes.now ≤ 65536 }
     requires len { length workers.items ≡ length lanes.now }
     requires ready { AreReady K.stands K.rules options.now packets.now lanes.now workers.items }

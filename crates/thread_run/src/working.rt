@@ -1,9 +1,11 @@
 //! What the workers do.
 ghost use Rattle.std.specs.Prelude.{◌≡◌, ◌<◌, ◌≤◌, ℕ, length, slice_index_or};
+ghost use Rattle.hash_rows.specs.Limits.{most_records};
 ghost use Rattle.hash_rows.specs.Shapes.{IsShape};
 ghost use Rattle.thread_run.specs.Workers.{AreReady, HasWorked, HaveWorked, IsCrewDone, IsReady};
 
 use crate::parts::{Crew, Marks, WorkerPart};
+use core::mem::replace_with;
 use hash_rows::{Full, Kind, Options, Packet};
 use push_lane::Lane;
 use std::sync::Wait;
@@ -19,21 +21,23 @@ const NAPS: u32 = 100;
 
 const NAP_MILLIS: u64 = 100;
 
-// The work of one worker.
-fn run_one<K: Kind, R: Wait, G: Gate>(
+// The work of one worker. Its part stands on the stack of its own thread while it works, so that no
+// two workers write near each other.
+fn worked<K: Kind, R: Wait, G: Gate>(
     rt: &R,
     worker: u32,
     packets: &[Packet],
     options: &Options,
     lane: &Lane,
     gate: &G,
-    part: &mut WorkerPart<K>,
-)
+    part: WorkerPart<K>,
+) -> WorkerPart<K>
     requires shape { IsShape options.now.shape }
-    requires few { length packets.now ≤ 16777216 }
-    requires ready { IsReady K.stands K.rules options.now packets.now lane.now part.old }
-    ensures { HasWorked K.stands K.rules options.now packets.now worker lane.now part.old part.new }
+    requires few { length packets.now ≤ most_records }
+    requires ready { IsReady K.stands K.rules options.now packets.now lane.now part }
+    ensures { HasWorked K.stands K.rules options.now packets.now worker lane.now part result }
 {
+    let mut part = part;
     work(
         rt,
         worker,
@@ -45,6 +49,32 @@ fn run_one<K: Kind, R: Wait, G: Gate>(
         lane,
         &mut part.pass,
         gate,
+    );
+    part
+}
+
+// The same, of a part that stands in a list.
+fn run_one<K: Kind, R: Wait, G: Gate>(
+    rt: &R,
+    worker: u32,
+    packets: &[Packet],
+    options: &Options,
+    lane: &Lane,
+    gate: &G,
+    part: &mut WorkerPart<K>,
+)
+    requires shape { IsShape options.now.shape }
+    requires few { length packets.now ≤ most_records }
+    requires ready { IsReady K.stands K.rules options.now packets.now lane.now part.old }
+    ensures { HasWorked K.stands K.rules options.now packets.now worker lane.now part.old part.new }
+{
+    replace_with(
+        part,
+        worker,
+        |part: WorkerPart<K>, worker: u32|
+            requires { IsShape options.now.shape × (length packets.now ≤ most_records) × IsReady K.stands K.rules options.now packets.now lane.now part }
+            ensures { HasWorked K.stands K.rules options.entry.now packets.entry.now worker lane.entry.now part result.0 }
+        { (worked(rt, worker, packets, options, lane, gate, part), ()) },
     );
 }
 
@@ -58,7 +88,7 @@ fn run_workers<K: Kind, R: Threads + Wait + Sync, G: Gate>(
     parts: &mut [WorkerPart<K>],
 )
     requires shape { IsShape options.now.shape }
-    requires few { length packets.now ≤ 16777216 }
+    requires few { length packets.now ≤ most_records }
     requires lanes { length lanes.now ≤ 65536 }
     requires len { length parts.old ≡ length lanes.now }
     requires ready { AreReady K.stands K.rules options.now packets.now lanes.now parts.old }
@@ -73,7 +103,7 @@ fn run_workers<K: Kind, R: Threads + Wait + Sync, G: Gate>(
         parts,
         threads,
         &|i: usize, part: &mut WorkerPart<K>|
-            requires { IsShape options.now.shape × (length packets.now ≤ 16777216) × (length lanes.now ≤ 65536) × (i < length lanes.now)
+            requires { IsShape options.now.shape × (length packets.now ≤ most_records) × (length lanes.now ≤ 65536) × (i < length lanes.now)
                 × ((l : _) → IsReady K.stands K.rules options.now packets.now (slice_index_or lanes.now i l) part.now) }
             ensures { (l : _) → HasWorked K.stands K.rules options.entry.now packets.entry.now i
                 (slice_index_or lanes.entry.now i l) part.entry.now part.exit.now }
@@ -91,7 +121,7 @@ fn run_all_workers<K: Kind, R: Threads + Wait + Sync, G: Gate>(
     parts: &mut Vec<WorkerPart<K>>,
 )
     requires shape { IsShape options.now.shape }
-    requires few { length packets.now ≤ 16777216 }
+    requires few { length packets.now ≤ most_records }
     requires lanes { length lanes.now ≤ 65536 }
     requires len { length parts.old.items ≡ length lanes.now }
     requires ready { AreReady K.stands K.rules options.now packets.now lanes.now parts.old.items }
@@ -122,7 +152,7 @@ fn run_begun<K: Kind, R: Threads + Wait + Sync, G: Gate>(
     crew: &mut Crew<K>,
 )
     requires shape { IsShape options.now.shape }
-    requires few { length packets.now ≤ 16777216 }
+    requires few { length packets.now ≤ most_records }
     requires lanes { length lanes.now ≤ 65536 }
     requires len { length crew.old.workers.items ≡ length lanes.now }
     requires ready { AreReady K.stands K.rules options.now packets.now lanes.now crew.old.workers.items }
@@ -148,7 +178,7 @@ pub fn run_crew<K: Kind, R: Threads + Wait + Sync, G: Gate>(
     crew: &mut Crew<K>,
 )
     requires shape { IsShape options.now.shape }
-    requires few { length packets.now ≤ 16777216 }
+    requires few { length packets.now ≤ most_records }
     requires lanes { length lanes.now ≤ 65536 }
     requires len { length crew.old.workers.items ≡ length lanes.now }
     requires ready { AreReady K.stands K.rules options.now packets.now lanes.now crew.old.workers.items }

@@ -1,6 +1,7 @@
 //! The lanes, with what each worker has to itself and the ends to take.
 ghost use Rattle.std.specs.Prelude.{◌≡◌, ◌<◌, ◌≤◌, ◌*◌, ◌++◌, [], ◌∷◌, length, IfOk, None};
 ghost use Rattle.hash_rows.specs.Lawful.{IsLawful};
+ghost use Rattle.hash_rows.specs.Limits.{most_records};
 ghost use Rattle.hash_rows.specs.Shapes.{size_of};
 ghost use Rattle.push_rule.specs.Stands.{StandsFor};
 ghost use Rattle.shares.specs.Owners.{AreOwners};
@@ -44,7 +45,7 @@ pub fn hands_of<K: Kind, R: Wait>(
     options: &Options,
 ) -> Result<Hands<K>, NoMemory>
     requires lawful { IsLawful options.now }
-    requires few { length packets.now ≤ 16777216 }
+    requires few { length packets.now ≤ most_records }
     ensures { IfOk result (AreHands K.stands K.rules options.now packets.now options.now.workers) }
 {
     let owners = owners_of(alloc, packets, options)?;
@@ -94,7 +95,7 @@ fn hand_of<K: Kind, R: Wait>(
 ) -> Result<Hand<K>, NoMemory>
     requires lawful { IsLawful options.now }
     requires worker { worker < options.now.workers }
-    requires few { length packets.now ≤ 16777216 }
+    requires few { length packets.now ≤ most_records }
     requires owners { AreOwners options.now packets.now owners.now }
     ensures { IfOk result (IsHand K.stands K.rules options.now packets.now worker) }
 {
@@ -119,7 +120,7 @@ fn sketch_of<K: Kind>(
     options: &Options,
 ) -> Result<Private<K>, NoMemory>
     requires lawful { IsLawful options.now }
-    requires few { packets ≤ 16777216 }
+    requires few { packets ≤ most_records }
     ensures fresh { IfOk result (λ sketch. StandsFor K.stands K.rules sketch [] [] []) }
     ensures idle { IfOk result (λ sketch. sketch.due ≡ None) }
     ensures cells { IfOk result (λ sketch. length sketch.held ≡ size_of options.now.shape) }

@@ -2,6 +2,7 @@
 ghost use Rattle.live_state.specs.Fold.{layout_in};
 ghost use Rattle.std.specs.Prelude.{◌≡◌, ◌<◌, ◌≤◌, ◌^◌, [], All, length, IfOk, OnOk};
 ghost use Rattle.hash_rows.specs.Lawful.{IsLawful};
+ghost use Rattle.hash_rows.specs.Limits.{most_records};
 ghost use Rattle.thread_setup.specs.Setups.{IsFreshView, IsSetUp};
 
 use crate::hands::{Lanes, hands_of};
@@ -38,7 +39,7 @@ pub fn set_up<K: Kind, R: Wait>(
 ) -> Result<Setup<K>, NoMemory>
     requires lawful { IsLawful options.now }
     requires sketch { options.now.sketch ≡ K.sketch }
-    requires few { length packets.now ≤ 16777216 }
+    requires few { length packets.now ≤ most_records }
     ensures ready { IfOk result (IsSetUp K.stands K.rules options.now packets.now) }
     ensures amounts { OnOk result (All (λ p. p.amount < 2 ^ 32) packets.now) }
 {

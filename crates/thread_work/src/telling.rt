@@ -12,6 +12,7 @@ use push_rule::Private;
 use std::sync::Wait;
 
 // Sends the message, or leaves it where the lane is full and pushes don't wait.
+#[inline(always)]
 fn send<R: Wait>(rt: &R, full: Full, lane: &Lane, pass: &mut InPass, message: Push) -> bool
     requires lane { pass.old.id ≡ lane.now.id }
     requires room { length pass.old.sent < 2 ^ 32 }
@@ -31,6 +32,7 @@ fn send<R: Wait>(rt: &R, full: Full, lane: &Lane, pass: &mut InPass, message: Pu
 }
 
 /// Counts the update, and sends a push that is due, or refuses it at a full lane.
+#[inline(always)]
 pub fn tell<K: Kind, R: Wait>(
     rt: &R,
     worker: u32,

@@ -1,5 +1,6 @@
 //! What a worker does.
 ghost use Rattle.std.specs.Prelude.{◌≡◌, ◌<◌, ◌≤◌, ◌+◌, ◌*◌, ◌++◌, [], List, length, None};
+ghost use Rattle.hash_rows.specs.Limits.{most_records};
 ghost use Rattle.hash_rows.specs.Shapes.{IsShape, size_of};
 ghost use Rattle.hash_rows.specs.declared.shape.Update.{Update};
 ghost use Rattle.push_history.specs.Updates.{updates_of};
@@ -78,7 +79,7 @@ pub fn work<K: Kind, R: Wait, G: Gate>(
     gate: &G,
 )
     requires shape { IsShape shape.now }
-    requires few { length packets.now ≤ 16777216 }
+    requires few { length packets.now ≤ most_records }
     requires share { AreRising (length packets.now) share.now }
     requires fresh { StandsFor K.stands K.rules sketch.old [] [] [] × (sketch.old.due ≡ None) }
     requires room { sketch.old.room ≡ shape.now.rows * length share.now }
@@ -91,12 +92,14 @@ pub fn work<K: Kind, R: Wait, G: Gate>(
     ensures told { HasTold K.stands K.rules worker lane.now.capacity full sketch.new pass.new
         (updates_of K.rules shape.now packets.now share.now) }
 {
+    // A copy, of which the loops read nothing again.
+    let shape = *shape;
     for place in 0..share.len() {
         gate.pass(worker, place);
         let position = share.at(place);
         let packet = &packets[position as usize];
         tell_packet(
-            rt, worker, packet, position, shape, full, sketch, lane, pass,
+            rt, worker, packet, position, &shape, full, sketch, lane, pass,
         );
     }
 }

@@ -5,7 +5,7 @@ use Rattle.std.specs.Option.{option_map_or}
 use Rattle.std.specs.List.{list_all, list_any}
 use Rattle.std.specs.Str.{bytes_eq}
 use Rattle.clap.specs.Kinds.{Kinds, or_else}
-use Rattle.clap.specs.Walk.{Row, Rule, first_of, has_row, is_early_multiple, nothing_held, one_of, row_text, settled, walk, walk_from, walked, with_default, default_rows, reading_by, more_values}
+use Rattle.clap.specs.Walk.{Row, Rule, first_of, has_row, is_early_multiple, nothing_held, one_of, row_text, settled, walk, walk_from, with_default, default_rows, reading_by, more_values}
 use Rattle.clap.specs.Simple.{App, built, filled_from, is_simple, matches_of}
 use Rattle.clap.specs.Faults.{built_fault, check_fault, default_fault, defaults_fault, fault_of, is_simple_and_free, level_fault, settle_fault, walk_fault}
 use Rattle.clap.specs.Takes.{is_given}

@@ -1,10 +1,10 @@
-use Rattle.std.proofs.Common.{arith, refl, sym, ap, subst, ◌≡◌, ◌++◌, ◌∙◌, List, [], ℕ, length}
+use Rattle.std.proofs.Common.{arith, refl, sym, ap, subst, ◌≡◌, ◌++◌, List, [], ℕ, length}
 use Rattle.std.specs.Prelude.{MatchResult}
-use Rattle.flow_base.specs.Flow.{behind}
 use Rattle.flow_base.specs.LinesRead.{left_of}
-use Rattle.flow_base.proofs.FlowLemmas.{behind-append, given_is}
+use Rattle.flow_base.proofs.FlowLemmas.{given_is}
+use Rattle.hash_rows.specs.Limits.{most_records}
 use Rattle.capture_load.specs.Capture.{RefusesNext}
-use Rattle.capture_load.specs.Loads.{EndsIn, IsLoaded, record_limit}
+use Rattle.capture_load.specs.Loads.{EndsIn, IsLoaded}
 use Rattle.capture_load.proofs.Ahead.{ended_ahead, given_ahead, given_drained, no_bytes}
 use Rattle.capture_load.proofs.Ends.{ends_bad, ends_fine, ends_ng, ends_whole, stood_fine, stops_bad, stops_ng}
 use Rattle.capture_load.proofs.load.load_behind.Goals as goal
@@ -18,7 +18,7 @@ returns-in-Err-clause-unrefused g c = λ is frames refusal given rest told left 
     let was = given_drained (left_of g.S.Source.left c.args.source.now) _ (g.S.Source.left c.fill.new.self.source.now) inv.0 c.reads.source.window c.fill.new.self.window inv.2 c.in-Err.ensures.left (c.in-Err.ensures.drained refl) in
     let same : inv.0 ≡ given = given_is (left_of g.S.Source.left c.args.source.now) (g.S.Source.left c.fill.new.self.source.now) inv.0 given rest was told left in
     stood_fine c.reads.loading.format inv.0 inv.1 frames _ refusal c.reads.invariant.0 inv.3.stands
-    (subst (λ (b : List ℕ). RefusesNext record_limit b frames refusal) (sym same) refused)
+    (subst (λ (b : List ℕ). RefusesNext most_records b frames refusal) (sym same) refused)
 
 pub returns-in-Err-clause-front : goal.returns-in-Err-clause-front
 returns-in-Err-clause-front g c =

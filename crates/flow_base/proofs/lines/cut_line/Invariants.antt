@@ -1,4 +1,4 @@
-use Rattle.std.proofs.Common.{◌-◌, ◌≡◌, ◌≢◌, ◌<◌, ◌≤◌, ℕ, List, length, take, min}
+use Rattle.std.proofs.Common.{◌-◌, ◌≡◌, ◌≤◌, length, take, min}
 use Rattle.flow_base.specs.LinesRead.{HasNoFeed}
 use Rattle.flow_base.proofs.lines.cut_line.Given as goal
 

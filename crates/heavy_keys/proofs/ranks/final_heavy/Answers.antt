@@ -1,4 +1,4 @@
-use Rattle.std.proofs.Common.{◌≡◌, ◌≤◌, ℕ, ℤ, List, map, take, take_all, length, subst, sym, ◌∙◌, arith, w64}
+use Rattle.std.proofs.Common.{◌≤◌, ℤ, List, map, take_all, length, subst, sym, ◌∙◌, arith, w64}
 use Rattle.std.proofs.Math.Facts.{to_z-of_z}
 use Rattle.packet_key.specs.declared.key.FlowKey.{FlowKey}
 use Rattle.hash_rows.specs.declared.shape.Packet.{Packet}

@@ -1,4 +1,4 @@
-use Rattle.std.proofs.Common.{rules, ◌≡◌, ◌≤◌, ◌<◌, ◌+◌, ◌-◌, ◌*◌, ℕ, sym, ◌∙◌, subst, true, false, refl, arith, length}
+use Rattle.std.proofs.Common.{rules, ◌≡◌, ◌≤◌, ◌+◌, ◌-◌, ◌*◌, ℕ, subst, true, false, refl, arith, length}
 use Rattle.octo_engine.specs.Counts.{HasCounted, HasMoved}
 use Rattle.octo_engine.proofs.Stepping.{counted_ends, counted_then, fit_moved, moved_ends, moved_then}
 use Rattle.octo_engine.proofs.Places.{ahead_there, whole_packet}

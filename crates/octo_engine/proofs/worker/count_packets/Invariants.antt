@@ -1,4 +1,4 @@
-use Rattle.std.proofs.Common.{◌≡◌, ◌≤◌, ◌+◌, ◌*◌, ℕ, false, length}
+use Rattle.std.proofs.Common.{◌≡◌, ◌+◌, ◌*◌, ℕ, false, length}
 use Rattle.push_history.specs.LagRun.{Terms, Worker}
 use Rattle.push_rule.specs.Keeps.{Keeps}
 use Rattle.octo_engine.specs.Counts.{HasCounted, HasMoved, HasShare, IsFit}

@@ -1,5 +1,4 @@
 use Rattle.std.proofs.Common.{subst}
-use Rattle.rounds_audit.specs.declared.verdict.Verdict.{Verdict}
 use Rattle.octo_run.specs.Audits.{IsJudged}
 use Rattle.octo_run.proofs.Audited.{judged_lawful, judged_unlawful}
 use Rattle.octo_run.proofs.audit.audit.Goals as goal

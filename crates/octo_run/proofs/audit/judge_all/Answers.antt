@@ -1,4 +1,4 @@
-use Rattle.std.proofs.Common.{◌≡◌, rules}
+use Rattle.std.proofs.Common.{rules}
 use Rattle.std.proofs.lemmas.Result.{IfErr-weaker}
 use Rattle.octo_run.proofs.Audited.{same_reason}
 use Rattle.octo_run.proofs.audit.judge_all.Goals as goal

@@ -1,8 +1,7 @@
-use Rattle.std.proofs.Common.{◌≡◌, sym, subst, List, ℕ}
-use Rattle.flow_base.specs.Flow.{Given}
+use Rattle.std.proofs.Common.{sym, subst}
 use Rattle.words.specs.declared.command.Command.{Command}
-use Rattle.words.specs.declared.command.Command.TheVariants.{Load, Audit}
-use Rattle.octo_run.specs.Refusals.{IsDifference, OfJournal}
+use Rattle.words.specs.declared.command.Command.TheVariants.{Load}
+use Rattle.octo_run.specs.Refusals.{IsDifference}
 use Rattle.octo_run.specs.Runs.{GivenFor, Leaves, Spares, input_of}
 use Rattle.octo_run.proofs.Ends.{accepted, at_command, cut, differs, journal_command, no_usage, refused, risen, rose, told, unrefused}
 use Rattle.octo_run.proofs.run.octo.Goals as goal

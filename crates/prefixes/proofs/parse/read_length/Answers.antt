@@ -1,5 +1,4 @@
-use Rattle.std.proofs.Common.{◌<◌, ◌^◌, arith}
-use Rattle.prefixes.proofs.Texts.{length_fits_32, same_some}
+use Rattle.prefixes.proofs.Texts.{length_fits_32}
 use Rattle.prefixes.proofs.parse.read_length.Goals as goal
 
 pub returns-in_err-length-clause-read : goal.returns-in_err-length-clause-read

@@ -1,4 +1,4 @@
-use Rattle.std.proofs.Common.{◌≡◌, ◌≢◌, ◌∙◌, sym, ap, arith}
+use Rattle.std.proofs.Common.{◌≡◌, ◌∙◌, sym, ap, arith}
 use Rattle.prefixes.specs.declared.network.Prefix.{Prefix}
 use Rattle.prefixes.specs.Networks.{network_of}
 use Rattle.text_tests.proofs.Watching.{two_watched}

@@ -1,4 +1,4 @@
-use Rattle.std.proofs.Common.{◌≡◌, ◌<◌, ◌≤◌, ◌++◌, ◌∷◌, [], length, ◌∙◌, sym, ap, arith, append_assoc, length-append}
+use Rattle.std.proofs.Common.{◌++◌, ◌∷◌, [], length, ◌∙◌, sym, ap, arith, append_assoc, length-append}
 use Rattle.std.proofs.lemmas.Iterator.Adapters.{YieldsList-from_vec}
 use Rattle.std.proofs.lemmas.Iterator.Consumers.{YieldsList-end, YieldsList-turn}
 use Rattle.thread_ends.proofs.Gathered.{as_it_is}

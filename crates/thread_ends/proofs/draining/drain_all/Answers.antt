@@ -1,4 +1,4 @@
-use Rattle.std.proofs.Common.{◌≡◌, ◌<◌, ◌≤◌, ◌++◌, length, ◌∙◌, arith}
+use Rattle.std.proofs.Common.{◌≤◌, length, ◌∙◌, arith}
 use Rattle.thread_ends.specs.Ends.{HasAll, LacksLast}
 use Rattle.thread_ends.proofs.Drained.{at_err, drained_all, drained_next, keep_len, keep_self, keep_then, named_still, same_self, same_then}
 use Rattle.thread_ends.proofs.draining.drain_all.Goals as goal

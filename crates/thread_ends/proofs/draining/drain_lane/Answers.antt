@@ -1,9 +1,7 @@
-use Rattle.std.proofs.Common.{◌≡◌, ◌<◌, ◌++◌, ◌∷◌, [], List, length, refl, sym, ap, ◌∙◌, arith, rules, true}
-use Rattle.hash_rows.specs.declared.shape.Push.{Push}
+use Rattle.std.proofs.Common.{◌≡◌, ◌<◌, ◌++◌, ◌∷◌, [], length, refl, ap, ◌∙◌, arith, rules, true}
 use Rattle.live_state.specs.Fold.{fits}
-use Rattle.aggregate.specs.Takens.{taken_at}
-use Rattle.thread_ends.specs.Ends.{HasAll, KeepLists, KeepsPublished, LacksLast, both_sents, kept_in}
-use Rattle.thread_ends.proofs.Drained.{at_err, it_fits, keep_len, keep_self, keep_then, kept_more, kept_same, others_stay, same_self, same_then, taken_one, taken_same}
+use Rattle.thread_ends.specs.Ends.{HasAll, KeepsPublished, LacksLast, kept_in}
+use Rattle.thread_ends.proofs.Drained.{at_err, it_fits, keep_len, keep_self, keep_then, kept_more, kept_same, others_stay, same_self, same_then, taken_one}
 use Rattle.thread_ends.proofs.draining.drain_lane.Goals as goal
 
 pub loop-init : goal.loop-init

@@ -1,7 +1,6 @@
-use Rattle.std.proofs.Common.{◌≡◌, ◌<◌, ◌≤◌, ◌++◌, ◌∷◌, [], length, ◌∙◌, sym, ap, subst, arith, rules, refl}
-use Rattle.push_lane.specs.Views.{BothView}
+use Rattle.std.proofs.Common.{◌<◌, ◌≤◌, length, ◌∙◌, arith, refl}
 use Rattle.thread_ends.specs.Ends.{IsOne}
-use Rattle.thread_ends.proofs.Joined.{AreJoined, first_id, joined_all, joined_next, joined_none, joined_sketches, out_id, worker_id}
+use Rattle.thread_ends.proofs.Joined.{joined_all, joined_next, joined_none, joined_sketches}
 use Rattle.thread_ends.proofs.joining.take_in_all.Goals as goal
 
 pub loop-lane-init : goal.loop-lane-init

@@ -1,4 +1,4 @@
-use Rattle.std.proofs.Common.{rules, ◌≡◌, ◌∙◌, ◌<◌, length, refl, arith}
+use Rattle.std.proofs.Common.{rules, ◌∙◌, ◌<◌, length, refl, arith}
 use Rattle.thread_run.proofs.Asks.{asked_more, asked_none, prefix_self, prefix_trans}
 use Rattle.thread_run.proofs.reading.read.Goals as goal
 

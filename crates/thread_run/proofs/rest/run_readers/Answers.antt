@@ -1,7 +1,6 @@
-use Rattle.std.proofs.Common.{◌≡◌, ◌≤◌, ◌<◌, length, rules, arith, sym, subst, slice_index_or}
+use Rattle.std.proofs.Common.{◌<◌, rules, arith}
 use Rattle.std.specs.Prelude.{All}
 use Rattle.live_state.specs.Copies.{HasRoomFor}
-use Rattle.thread_run.specs.Readers.{HasAsked, HaveAsked}
 use Rattle.thread_run.proofs.rest.run_readers.Goals as goal
 
 pub for_each_mut-requires-clause-accepts : goal.for_each_mut-requires-clause-accepts

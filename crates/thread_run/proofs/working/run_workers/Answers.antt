@@ -1,8 +1,8 @@
-use Rattle.std.proofs.Common.{◌≡◌, ◌<◌, length, rules, arith, sym, subst, slice_index_or}
+use Rattle.std.proofs.Common.{◌<◌, length, rules, arith, slice_index_or}
 use denote.Exit.{no}
 use denote.Param.Send.{arg_send, arg_sync, copied_send, copied_sync, param_send, param_sync}
 use Rattle.push_lane.specs.Views.{LaneView}
-use Rattle.thread_run.specs.Workers.{HaveWorked, IsReady}
+use Rattle.thread_run.specs.Workers.{IsReady}
 use Rattle.thread_run.proofs.working.run_workers.Goals as goal
 
 pub for_each_mut-requires-clause-accepts : goal.for_each_mut-requires-clause-accepts

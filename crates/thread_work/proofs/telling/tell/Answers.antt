@@ -1,4 +1,4 @@
-use Rattle.std.proofs.Common.{rules, ◌≡◌, ◌<◌, ◌∙◌, sym, refl, w64, length, ◌^◌, arith}
+use Rattle.std.proofs.Common.{rules, ◌<◌, ◌∙◌, refl, w64, ◌^◌, arith}
 use Rattle.std.specs.Prelude.{Some, None}
 use Rattle.std.proofs.lemmas.Int.{to_z-of_z}
 use mir.Val.{SFits}

@@ -1,7 +1,6 @@
-use Rattle.std.proofs.Common.{rules, ◌≡◌, ◌∙◌, ◌<◌, ◌≤◌, ◌^◌, ◌+◌, ◌++◌, sym, ap, subst, w64, ℕ, List, true, arith}
+use Rattle.std.proofs.Common.{rules, ◌≡◌, ◌∙◌, ◌<◌, ◌^◌, sym, subst, w64, true, arith}
 use Rattle.std.proofs.lemmas.Int.{to_z-of_z}
 use mir.Val.{SFits}
-use Rattle.hash_rows.specs.Rules.{Rules}
 use Rattle.hash_rows.specs.Shapes.{cell_of}
 use Rattle.thread_work.proofs.Rows.{same_then, told_row}
 use Rattle.thread_work.proofs.worker.tell_packet.Goals as goal

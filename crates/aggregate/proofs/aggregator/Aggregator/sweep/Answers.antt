@@ -1,7 +1,6 @@
 use Rattle.std.proofs.Common.{rules, ◌≡◌, ◌<◌, ◌≤◌, ◌++◌, ◌∷◌, [], List, length, ap, ◌∙◌, arith}
 use Rattle.std.specs.Prelude.{IfOk}
 use Rattle.std.proofs.lemmas.List.{length_push}
-use Rattle.hash_rows.specs.declared.shape.Push.{Push}
 use Rattle.push_lane.specs.Views.{OutView}
 use Rattle.aggregate.specs.Sweeps.{AggregatorView, in_order}
 use Rattle.aggregate.specs.Takens.{takens}

@@ -1,7 +1,6 @@
-use Rattle.std.proofs.Common.{rules, ◌≡◌, ◌<◌, ◌≤◌, ◌++◌, ◌∷◌, [], List, length, refl, sym, subst, ap, ◌∙◌, arith}
+use Rattle.std.proofs.Common.{rules, ◌≡◌, ◌<◌, ◌≤◌, ◌++◌, ◌∷◌, [], length, refl, sym, subst, ap, ◌∙◌, arith}
 use Rattle.std.specs.Prelude.{IfOk}
 use Rattle.std.proofs.lemmas.List.{length_push}
-use Rattle.hash_rows.specs.declared.shape.Push.{Push}
 use Rattle.aggregate.specs.Sweeps.{HasSweptLane, HasTaken, KeepsPair, AggregatorView}
 use Rattle.aggregate.specs.Takens.{ArePassesOf, takens}
 use Rattle.aggregate.proofs.Grown.{with_one}

@@ -1,7 +1,7 @@
-use Rattle.std.proofs.Common.{rules, ◌≡◌, ◌≢◌, ◌∙◌, ◌<◌, ◌≤◌, ◌+◌, ◌-◌, ◌++◌, [], ◌∷◌, ℕ, List, Option, All, length, take, drop, true, false, Bool, refl, sym, ap, subst, arith, append_assoc, min, length-take}
+use Rattle.std.proofs.Common.{◌≡◌, ◌≢◌, ◌∙◌, ◌≤◌, ◌+◌, ◌-◌, ◌++◌, [], ◌∷◌, ℕ, List, length, take, true, false, sym, ap, subst, arith, append_assoc, length-take}
 use Rattle.std.proofs.lemmas.List.Elements.{All-append}
 use Rattle.flow_base.specs.Flow.{behind}
-use Rattle.flow_base.specs.LinesRead.{IsCut, left_of, IsLine, HasNoFeed}
+use Rattle.flow_base.specs.LinesRead.{IsCut, left_of, HasNoFeed}
 use Rattle.flow_base.proofs.FlowLemmas.{line_more}
 use Rattle.flow_base.proofs.ahead.Ahead.read_line.Goals as goal
 

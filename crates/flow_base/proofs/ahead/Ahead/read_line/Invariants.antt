@@ -1,4 +1,4 @@
-use Rattle.std.proofs.Common.{◌-◌, ◌≡◌, ◌<◌, ◌≤◌, ℕ, List, length, take}
+use Rattle.std.proofs.Common.{◌-◌, ◌≡◌, ◌≤◌, length, take}
 use Rattle.flow_base.specs.Flow.{behind}
 use Rattle.flow_base.specs.LinesRead.{left_of, HasNoFeed}
 use Rattle.flow_base.proofs.ahead.Ahead.read_line.Given as goal

@@ -1,4 +1,4 @@
-use Rattle.std.proofs.Common.{◌∙◌, sym, ap, ◌≡◌, List, ℕ, Option, take}
+use Rattle.std.proofs.Common.{◌∙◌, sym, ap, take}
 use Rattle.flow_base.specs.Flow.{behind}
 use Rattle.flow_base.proofs.FlowLemmas.{behind_passed}
 use Rattle.flow_base.proofs.ahead.AheadSource.read.Goals as goal

@@ -1,4 +1,4 @@
-use Rattle.std.proofs.Common.{arith, refl, true, slice_set, ◌∙◌, ap, sym, subst, ◌≡◌, ◌<◌, ◌≤◌, ◌+◌, ◌-◌, ◌++◌, [], ◌∷◌, ℕ, length, Option, IsSome, MatchOption}
+use Rattle.std.proofs.Common.{arith, refl, true, slice_set, ◌∙◌, ap, sym, subst, ◌≡◌, ◌<◌, ◌-◌, ℕ, length, Option, IsSome, MatchOption}
 use Rattle.std.specs.Prelude.{⊤}
 use Rattle.push_rule.specs.Stands.{PrivateView, StandsFor, counted_of}
 use Rattle.push_rule.proofs.Standing.{counted_settled, due_cell, stands_refused}
