@@ -8,6 +8,7 @@ pub mod RankOrder
 pub mod InOrder
 pub mod Counting
 pub mod Sharing
+pub mod Slotted
 pub mod Parting
 pub mod FoundLemmas
 pub mod BucketLemmas

@@ -1,4 +1,5 @@
-ghost use Rattle.std.specs.Prelude.{◌≡◌, ◌<◌, length, map, Contains, IsTrue};
+ghost use Rattle.std.specs.Prelude.{◌≡◌, ◌<◌, ◌/◌, ◌^◌, length, map, Contains, IsTrue};
+ghost use Rattle.heavy_keys.specs.Slots.{slot_number};
 
 use crate::flow_keys::fingerprint;
 use hash_rows::Packet;
@@ -41,13 +42,15 @@ fn has_key_at(packets: &[Packet], place: u32, key: &FlowKey) -> bool
 
 /// The slot of a key.
 pub fn slot_of(key: &FlowKey) -> u32
-    ensures { result < 16384 }
+    ensures slot { result ≡ slot_number key.now }
+    ensures within { result < 16384 }
 {
     slot_in(fingerprint(key))
 }
 
 fn slot_in(hash: u64) -> u32
-    ensures { result < 16384 }
+    ensures slot { result ≡ hash / 2 ^ 50 }
+    ensures within { result < 16384 }
 {
     (hash >> 50) as u32
 }

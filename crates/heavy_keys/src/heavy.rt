@@ -2,6 +2,7 @@ ghost use Rattle.std.specs.Prelude.{◌≡◌, ◌<◌, ◌≤◌, ◌+◌, ◌+
 ghost use Rattle.indexmap.specs.IndexMap.{keys as keys_of_map, spare};
 ghost use Rattle.heavy_keys.specs.Noted.{fresh_table, is_due, noted};
 ghost use Rattle.heavy_keys.specs.Live.{HoldsLive};
+ghost use Rattle.heavy_keys.specs.Slots.{AreSlotted};
 ghost use Rattle.hash_rows.specs.declared.shape.Flow.{Flow};
 ghost use Rattle.push_history.specs.LiveHeavy.{is_among};
 
@@ -18,7 +19,8 @@ use std::marker::Model;
 #[derive(Drop)]
 pub struct Heavy {
     keys: IndexMap<FlowKey, ()>,
-    // The places of keys, by which most are found at once.
+    // In the slot of each key one more than the place of the one that came last, by which most keys
+    // are found at once, and one whose slot is empty isn't looked up.
     slots: Listed<u32>,
     missed: u64,
     limit: u32,
@@ -29,13 +31,14 @@ impl Model for Heavy {
     ghost use Rattle.std.specs.Prelude.{ℕ, ◌≡◌, ◌≤◌, ◌+◌, length};
     ghost use Rattle.indexmap.specs.IndexMap.{keys as keys_of_map, spare};
     ghost use Rattle.heavy_keys.specs.Noted.{HeavyTable};
+    ghost use Rattle.heavy_keys.specs.Slots.{AreSlotted};
 
     ghost Value = { HeavyTable };
 
     ghost view = { λ h. record { keys = keys_of_map h.keys; missed = h.missed; limit = h.limit; least = h.least } };
 
     ghost invariant = { λ h. (length (keys_of_map h.keys) ≤ h.limit) × (h.limit ≤ length (keys_of_map h.keys) + spare h.keys)
-        × (length h.slots.items ≡ 16384) };
+        × (length h.slots.items ≡ 16384) × AreSlotted h.slots.items (keys_of_map h.keys) };
 }
 
 impl Heavy {
@@ -66,8 +69,7 @@ impl Heavy {
     {
         if self.is_due(&key, estimate) {
             if self.keys.len() < self.limit as usize {
-                self.slots.set(slot_of(&key), self.keys.len() as u32);
-                add_last(&mut self.keys, key);
+                add_last(&mut self.keys, &mut self.slots, key);
             } else {
                 self.missed = self.missed.saturating_add(1);
             }
@@ -84,14 +86,21 @@ impl Heavy {
     fn has_key(&self, key: &FlowKey) -> bool
         ensures { result ≡ is_among self.now.keys key.now }
     {
-        self.is_found(key) || self.keys.contains_key(key)
+        let behind = *self.slots.get(slot_of(key));
+        behind > 0 && self.is_held(key, behind - 1)
     }
 
-    // Whether the key stands at the place in its slot. One that doesn't may stand elsewhere.
-    fn is_found(&self, key: &FlowKey) -> bool
+    // Whether the key is there. It may stand at the place.
+    fn is_held(&self, key: &FlowKey, place: u32) -> bool
+        ensures { result ≡ is_among self.now.keys key.now }
+    {
+        self.is_at(place, key) || self.keys.contains_key(key)
+    }
+
+    // Whether the key stands at the place. One that doesn't may stand elsewhere.
+    fn is_at(&self, place: u32, key: &FlowKey) -> bool
         ensures { IsTrue result → is_among self.now.keys key.now ≡ true }
     {
-        let place = *self.slots.get(slot_of(key));
         match self.keys.get_index(place as usize) {
             Some((known, _)) => same_key(known, key),
             None => false,
@@ -127,31 +136,45 @@ impl Heavy {
         requires { self.old ≡ fresh_table other.now.limit other.now.least }
         ensures { self.new ≡ other.now }
     {
-        copy_keys(&mut self.keys, &other.keys);
+        copy_keys(&mut self.keys, &mut self.slots, &other.keys);
         self.missed = other.missed;
     }
 }
 
-// Adds a key that isn't there. There is room, so this takes no memory.
-fn add_last(keys: &mut IndexMap<FlowKey, ()>, key: FlowKey)
+// Adds a key that isn't there, and fills its slot. There is room, so this takes no memory.
+fn add_last(keys: &mut IndexMap<FlowKey, ()>, slots: &mut Listed<u32>, key: FlowKey)
     requires room { 0 < spare keys.old }
     requires absent { is_among (keys_of_map keys.old) key ≡ false }
+    requires slots { length slots.old.items ≡ 16384 }
+    requires slotted { AreSlotted slots.old.items (keys_of_map keys.old) }
     ensures keys { keys_of_map keys.new ≡ keys_of_map keys.old ++ key ∷ [] }
     ensures spare { spare keys.old ≤ spare keys.new + 1 }
+    ensures slots { length slots.new.items ≡ 16384 }
+    ensures slotted { AreSlotted slots.new.items (keys_of_map keys.new) }
 {
+    let behind = u32::try_from(keys.len()).unwrap_or(0).saturating_add(1);
+    slots.set(slot_of(&key), behind);
     let _ = keys.insert(key, ());
 }
 
 // Adds the keys of the other map, in order. There is room, so this takes no memory.
-fn copy_keys(keys: &mut IndexMap<FlowKey, ()>, other: &IndexMap<FlowKey, ()>)
+fn copy_keys(
+    keys: &mut IndexMap<FlowKey, ()>,
+    slots: &mut Listed<u32>,
+    other: &IndexMap<FlowKey, ()>,
+)
     requires none { keys_of_map keys.old ≡ [] }
     requires room { length (keys_of_map other.now) ≤ spare keys.old }
+    requires slots { length slots.old.items ≡ 16384 }
+    requires slotted { AreSlotted slots.old.items (keys_of_map keys.old) }
     ensures keys { keys_of_map keys.new ≡ keys_of_map other.now }
     ensures spare { spare keys.old ≤ spare keys.new + length (keys_of_map other.now) }
+    ensures slots { length slots.new.items ≡ 16384 }
+    ensures slotted { AreSlotted slots.new.items (keys_of_map keys.new) }
 {
     for place in 0..other.len() {
         match other.get_index(place) {
-            Some((key, _)) => add_last(keys, *key),
+            Some((key, _)) => add_last(keys, slots, *key),
             None => unreachable!(),
         }
     }

@@ -10,5 +10,9 @@ add_last-requires-clause-absent c =
 
 pub loop-place-preserved : goal.loop-place-preserved
 loop-place-preserved c =
-    let below : c.loop-place.place < length c.args.other.now.entries = omega (arith, c.loop-place-test.true, c.len-place-end.ensures.len) in
-    (c.add_last.ensures.keys ∙ grown_at c.args.other.now.entries _ c.loop-place.place c.in-Some.key.now c.in-Some.field-0-1.now c.in-Some.ensures.entry below c.loop-place.invariant.0, omega (arith, c.add_last.ensures.spare, c.loop-place.invariant.1))
+    let below : c.loop-place.place < length c.args.other.now.entries = omega (arith, c.loop-place-test.true, c.len-place-end.ensures.len) in (
+      c.add_last.ensures.keys ∙ grown_at c.args.other.now.entries _ c.loop-place.place c.in-Some.key.now c.in-Some.field-0-1.now c.in-Some.ensures.entry below c.loop-place.invariant.0,
+      omega (arith, c.add_last.ensures.spare, c.loop-place.invariant.1),
+      c.add_last.ensures.slots,
+      c.add_last.ensures.slotted,
+    )
