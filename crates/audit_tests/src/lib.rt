@@ -3,10 +3,8 @@
 #![tactic(auto)]
 
 #[cfg(test)]
+mod journals;
+#[cfg(test)]
 mod judging;
 #[cfg(test)]
-mod lawful;
-#[cfg(test)]
-mod rounds;
-#[cfg(test)]
-mod unlawful;
+mod texts;

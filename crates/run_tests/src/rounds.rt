@@ -109,7 +109,7 @@ fn run_six<K: Kind, R: Threads + Sync>(
 }
 
 #[test]
-fn a_full_lane_refuses(rt: HostRuntime) -> Result<(), Fail> {
+fn a_full_lane_refuses_or_pushes_wait_for_the_next_round(rt: HostRuntime) -> Result<(), Fail> {
     let watch = Listed::filled(rt.alloc(), 1, KEY)?;
     let options = options_for(Sketch::CountMin, ONE_CELL, 1, 32, 4, Full::Leave, watch);
     let settled = run_six::<CountMin, _>(&rt, rt.alloc(), &options)?;
@@ -119,17 +119,12 @@ fn a_full_lane_refuses(rt: HostRuntime) -> Result<(), Fail> {
     assert!(rt; settled.table.estimate(&KEY) == 6);
     assert!(rt; settled.lists.live.as_slice() == [KEY].as_slice());
     assert!(rt; settled.lists.missed == 0);
-    Ok(())
-}
-
-#[test]
-fn a_push_that_waits_comes_in_the_next_round(rt: HostRuntime) -> Result<(), Fail> {
     let watch = Listed::filled(rt.alloc(), 1, KEY)?;
     let options = options_for(Sketch::CountMin, ONE_CELL, 1, 32, 4, Full::Wait, watch);
-    let settled = run_six::<CountMin, _>(&rt, rt.alloc(), &options)?;
-    assert!(rt; settled.lists.pushes.as_slice() == [6].as_slice());
-    assert!(rt; answers_of(&settled) == [(1, 1), (2, 2), (3, 3)]);
-    assert!(rt; settled.table.estimate(&KEY) == 6);
+    let waited = run_six::<CountMin, _>(&rt, rt.alloc(), &options)?;
+    assert!(rt; waited.lists.pushes.as_slice() == [6].as_slice());
+    assert!(rt; answers_of(&waited) == [(1, 1), (2, 2), (3, 3)]);
+    assert!(rt; waited.table.estimate(&KEY) == 6);
     Ok(())
 }
 
