@@ -1,4 +1,5 @@
 ghost use Rattle.std.specs.Prelude.{◌≤◌, length};
+ghost use Rattle.hash_rows.specs.Limits.{most_records};
 ghost use Rattle.octo_text.specs.Readable.{IsReadable};
 
 use count_min::CountMin;
@@ -35,7 +36,7 @@ fn packets_of(alloc: Global, letters: &[u8]) -> Result<Vec<Packet>, Fail> {
 // Judges a journal by its sketch.
 fn audit(alloc: Global, packets: &[Packet], journal: &Journal) -> Result<Verdict, NoMemory>
     requires readable { IsReadable journal.now }
-    requires few { length packets.now ≤ 16777216 }
+    requires few { length packets.now ≤ most_records }
 {
     match journal.options.sketch {
         Sketch::CountMin => audit_journal::<CountMin>(alloc, packets, journal),
