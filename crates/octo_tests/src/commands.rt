@@ -97,21 +97,28 @@ fn fail_reads<R: Threads + Wait + Sync + Abort>(
     Ok(())
 }
 
-// Each write of the case fails in turn: each line is one, and the lines before it are left.
+// Each write of the case fails in turn: each line is one, and the lines before it are left. The one
+// behind the last is never made.
 fn fail_writes<R: Threads + Wait + Sync + Abort>(
     rt: &R,
     alloc: Global,
     case: Case,
 ) -> Result<(), Fail> {
     let whole = smooth(rt, alloc, case)?;
-    for call in 0..lines_of(whole.out.held()) {
+    let lines = lines_of(whole.out.held());
+    for call in 0..=lines {
         let ways = Ways {
             failing_writes: &[call],
             ..SMOOTH
         };
         let end = run(rt, alloc, case.words, case.bytes, ways)?;
+        let (status, line): (Status, &[u8]) = if call < lines {
+            (Status::WriteFault, b"octo: write fault\n")
+        } else {
+            (Status::Done, b"")
+        };
         let held = end.out.held();
-        assert!(rt; end.status == Status::WriteFault, "{} {call}", case.words);
+        assert!(rt; end.status == status, "{} {call}", case.words);
         assert!(rt; whole.out.held().starts_with(held), "{} {call}", case.words);
         assert!(rt; lines_of(held) == call, "{} {call}", case.words);
         assert!(rt;
@@ -119,11 +126,7 @@ fn fail_writes<R: Threads + Wait + Sync + Abort>(
             "{} {call}",
             case.words
         );
-        assert!(rt;
-            end.err.held() == b"octo: write fault\n".as_slice(),
-            "{}",
-            case.words
-        );
+        assert!(rt; end.err.held() == line, "{} {call}", case.words);
     }
     Ok(())
 }

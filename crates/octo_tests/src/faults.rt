@@ -2,30 +2,19 @@
 
 use crate::audits::{LAWFUL, audit};
 use crate::runs::{SMOOTH, Ways, run};
+use crate::texts::{case_named, journal_named};
 use flow_base::Status;
 use std::alloc::Global;
 use std::sync::Wait;
 use std::test::Fail;
 use std::thread::Threads;
 
-/// Words whose report of one packet has 15 lines.
-const WORDS: &str = "run --workers 1 --threshold 1 --least 1 --watch 10.0.0.1:1234>10.0.0.2:443/6";
+/// The run of one packet, whose report has 15 lines.
+const ONE: &str = "one packet";
 
-/// Words whose report and journal of six packets have 24 lines.
-const WITH_JOURNAL: &str =
-    "run --rows 1 --columns 1 --workers 1 --threshold 1 --lane 1 --round 4 --readers 1 --asks 3 --least 5 --watch 10.0.0.1:1234>10.0.0.2:443/6 --journal";
-
-/// Words whose text of the epochs of 300 packets has 18 lines.
-const EPOCHS: &str = "epochs --packets 256 --rows 1 --columns 1 --least 100 --change 212";
-
-/// The journal of six packets. With its 272 bytes and the 444 of their capture it comes in 12 pieces of 64.
-const JOURNAL: &str = "octosketch journal 1
-options sketch count-sketch rows 1 columns 1 amount packets share turn workers 1 threshold 1 lane 64 batch 32 round 64 full leave mode rounds readers 0 asks 0 heavy 64 least 5
-worker 0 pushes 6 refused 0
-live 10.0.0.1:1234>10.0.0.2:443/6
-missed 0
-end
-";
+/// The run whose journal is judged. With its 272 bytes and the 444 of the capture it comes in 12 pieces
+/// of 64.
+const JUDGED: &str = "a Count Sketch finds its live key";
 
 // How a run ends whose source gives pieces and fails at a call.
 fn end_of_reads<R: Threads + Wait + Sync>(
@@ -40,7 +29,7 @@ fn end_of_reads<R: Threads + Wait + Sync>(
         failing_reads: &[call],
         ..SMOOTH
     };
-    let end = run(rt, alloc, WORDS, bytes, ways)?;
+    let end = run(rt, alloc, case_named(ONE)?.words, bytes, ways)?;
     Ok((end.status, end.out.held().len()))
 }
 
@@ -56,22 +45,22 @@ fn a_failing_read_ends_the_run(rt: HostRuntime) -> Result<(), Fail> {
     Ok(())
 }
 
-// Whether a write that fails leaves just the lines before it.
+// Whether a write that fails in the run with this name leaves just the lines before it.
 fn leaves_lines<R: Threads + Wait + Sync>(
     rt: &R,
     alloc: Global,
-    words: &str,
-    bytes: &str,
+    name: &str,
     lines: u32,
 ) -> Result<bool, Fail> {
-    let whole = run(rt, alloc, words, bytes, SMOOTH)?;
+    let case = case_named(name)?;
+    let whole = run(rt, alloc, case.words, case.bytes, SMOOTH)?;
     let mut good = whole.status == Status::Done;
     for call in 0..lines {
         let ways = Ways {
             failing_writes: &[call],
             ..SMOOTH
         };
-        let cut = run(rt, alloc, words, bytes, ways)?;
+        let cut = run(rt, alloc, case.words, case.bytes, ways)?;
         let held = cut.out.held();
         let whole_lines = held.iter().filter(|byte| **byte == b'\n').count();
         good = good
@@ -84,22 +73,25 @@ fn leaves_lines<R: Threads + Wait + Sync>(
         failing_writes: &[lines],
         ..SMOOTH
     };
-    Ok(good && run(rt, alloc, words, bytes, later)?.status == Status::Done)
+    Ok(good && run(rt, alloc, case.words, case.bytes, later)?.status == Status::Done)
 }
 
 #[test]
 fn a_failing_write_leaves_whole_lines(rt: HostRuntime) -> Result<(), Fail> {
-    let alloc = rt.alloc();
-    assert!(rt; leaves_lines(&rt, alloc, WORDS, "LH tcp", 15)?);
-    assert!(rt; leaves_lines(&rt, alloc, WITH_JOURNAL, "LH 6*tcp", 24)?);
-    assert!(rt; leaves_lines(&rt, alloc, EPOCHS, "LH 300*tcp", 18)?);
+    for (name, lines) in [
+        ("a full lane leaves updates refused", 24),
+        ("in one cell a reader asks before anything was told", 29),
+    ] {
+        assert!(rt; leaves_lines(&rt, rt.alloc(), name, lines)?, "{name}");
+    }
     Ok(())
 }
 
 #[test]
 fn a_small_output_holds_a_front_of_the_report(rt: HostRuntime) -> Result<(), Fail> {
     let alloc = rt.alloc();
-    let whole = run(&rt, alloc, WORDS, "LH tcp", SMOOTH)?;
+    let case = case_named(ONE)?;
+    let whole = run(&rt, alloc, case.words, case.bytes, SMOOTH)?;
     let bytewise = Ways {
         at_a_time: 1,
         ..SMOOTH
@@ -114,7 +106,7 @@ fn a_small_output_holds_a_front_of_the_report(rt: HostRuntime) -> Result<(), Fai
         (failing, 25),
         (bytewise, whole.out.held().len()),
     ] {
-        let end = run(&rt, alloc, WORDS, "LH tcp", ways)?;
+        let end = run(&rt, alloc, case.words, case.bytes, ways)?;
         assert!(rt; end.out.held().len() == held);
         assert!(rt; whole.out.held().starts_with(end.out.held()));
         assert!(rt; (end.status == Status::Done) == (held > 30));
@@ -129,7 +121,8 @@ fn a_fault_of_the_error_output_changes_nothing_else(rt: HostRuntime) -> Result<(
         failing_lines: &[0],
         ..SMOOTH
     };
-    let cut = run(&rt, rt.alloc(), WORDS, "LH tcp", untold)?;
+    let case = case_named(ONE)?;
+    let cut = run(&rt, rt.alloc(), case.words, case.bytes, untold)?;
     assert!(rt; (cut.status, cut.out.held().len()) == (Status::WriteFault, 20));
     assert!(rt; cut.err.held().is_empty());
     let unread = Ways {
@@ -137,7 +130,7 @@ fn a_fault_of_the_error_output_changes_nothing_else(rt: HostRuntime) -> Result<(
         failing_lines: &[0],
         ..SMOOTH
     };
-    let end = run(&rt, rt.alloc(), WORDS, "LH tcp", unread)?;
+    let end = run(&rt, rt.alloc(), case.words, case.bytes, unread)?;
     assert!(rt; (end.status, end.out.held().len()) == (Status::ReadFault, 0));
     Ok(())
 }
@@ -156,14 +149,16 @@ fn failing<'x>(reads: &'x [u32], writes: &'x [u32]) -> Ways<'x> {
 #[test]
 fn a_failing_read_ends_an_audit(rt: HostRuntime) -> Result<(), Fail> {
     let alloc = rt.alloc();
+    let bytes = case_named(JUDGED)?.bytes;
+    let journal = journal_named(alloc, JUDGED)?;
     // The last read finds the end of the input.
     for call in 0..13 {
-        let end = audit(&rt, alloc, JOURNAL, "LH 6*tcp", failing(&[call], &[]))?;
+        let end = audit(&rt, alloc, journal.as_str(), bytes, failing(&[call], &[]))?;
         assert!(rt; end.status == Status::ReadFault, "{call}");
         assert!(rt; end.out.held().is_empty());
         assert!(rt; end.err.held() == b"octo: read fault\n".as_slice());
     }
-    let end = audit(&rt, alloc, JOURNAL, "LH 6*tcp", failing(&[13], &[]))?;
+    let end = audit(&rt, alloc, journal.as_str(), bytes, failing(&[13], &[]))?;
     assert!(rt; end.status == Status::Done && end.out.held() == LAWFUL);
     Ok(())
 }
@@ -171,8 +166,10 @@ fn a_failing_read_ends_an_audit(rt: HostRuntime) -> Result<(), Fail> {
 #[test]
 fn a_failing_write_leaves_a_front_of_the_verdict(rt: HostRuntime) -> Result<(), Fail> {
     let alloc = rt.alloc();
+    let bytes = case_named(JUDGED)?.bytes;
+    let journal = journal_named(alloc, JUDGED)?;
     for call in 0..24u32 {
-        let end = audit(&rt, alloc, JOURNAL, "LH 6*tcp", failing(&[], &[call]))?;
+        let end = audit(&rt, alloc, journal.as_str(), bytes, failing(&[], &[call]))?;
         let held = end.out.held();
         assert!(rt; end.status == Status::WriteFault, "{call}");
         assert!(rt;
@@ -181,13 +178,16 @@ fn a_failing_write_leaves_a_front_of_the_verdict(rt: HostRuntime) -> Result<(), 
         );
         assert!(rt; end.err.held() == b"octo: write fault\n".as_slice());
     }
-    let end = audit(&rt, alloc, JOURNAL, "LH 6*tcp", failing(&[], &[24]))?;
+    let end = audit(&rt, alloc, journal.as_str(), bytes, failing(&[], &[24]))?;
     assert!(rt; end.status == Status::Done && end.out.held() == LAWFUL);
     Ok(())
 }
 
 #[test]
 fn an_audit_whose_fault_is_not_told_ends_the_same(rt: HostRuntime) -> Result<(), Fail> {
+    let alloc = rt.alloc();
+    let bytes = case_named(JUDGED)?.bytes;
+    let journal = journal_named(alloc, JUDGED)?;
     for (reads, writes, status, count) in [
         ([3].as_slice(), [].as_slice(), Status::ReadFault, 0),
         (&[], &[5], Status::WriteFault, 5),
@@ -196,7 +196,7 @@ fn an_audit_whose_fault_is_not_told_ends_the_same(rt: HostRuntime) -> Result<(),
             failing_lines: &[0],
             ..failing(reads, writes)
         };
-        let end = audit(&rt, rt.alloc(), JOURNAL, "LH 6*tcp", untold)?;
+        let end = audit(&rt, alloc, journal.as_str(), bytes, untold)?;
         assert!(rt; (end.status, end.out.held().len()) == (status, count));
         assert!(rt; LAWFUL.starts_with(end.out.held()));
         assert!(rt; end.err.held().is_empty());

@@ -1,7 +1,8 @@
 // Lengths and options that a packet's bytes don't depend on, and fronts of good captures.
 
 use crate::captures::capture;
-use crate::runs::{SMOOTH, run, run_on};
+use crate::runs::{SMOOTH, end_of, run, run_on};
+use crate::texts::whole_text;
 use flow_base::Status;
 use octo_run::OpenGate;
 use std::test::Fail;
@@ -50,61 +51,31 @@ fn a_packet_counts_by_its_original_length(rt: HostRuntime) -> Result<(), Fail> {
     Ok(())
 }
 
-/// Fronts of a capture, from the first length up to before the second: the line of the fault, with the
-/// length behind it, or a line of the report and the bytes that are cut behind the third length.
+/// What reports tell of none, one and two whole packets, up to the bytes that are cut.
+const NONE: &str = "records 0, keyed 0, notip 0, cut ";
+
+const ONE: &str = "records 1, keyed 1, notip 0, cut ";
+
+const BOTH: &str = "records 2, keyed 2, notip 0, cut ";
+
+/// How a run ends in a header and in a section, up to the bytes that there are.
+const HEADER: &str = "4 octo: bad capture 1 length ";
+
+const SECTION: &str = "4 octo: bad capture 8 length ";
+
+/// Fronts of a capture, from the first length up to before the second, and what is told of them, with
+/// the bytes behind the third length.
 const FRONTS: [(&str, u32, u32, u32, &str); 10] = [
-    ("LH 2*tcp", 0, 24, 0, "octo: bad capture 1 length "),
-    (
-        "LH 2*tcp",
-        24,
-        94,
-        24,
-        "keyed 0\nskipped short 0 notip 0 badip 0 tags 0\ncut ",
-    ),
-    (
-        "LH 2*tcp",
-        94,
-        164,
-        94,
-        "keyed 1\nskipped short 0 notip 0 badip 0 tags 0\ncut ",
-    ),
-    (
-        "LH 2*tcp",
-        164,
-        165,
-        164,
-        "keyed 2\nskipped short 0 notip 0 badip 0 tags 0\ncut ",
-    ),
-    ("SB IB EB PB", 0, 4, 0, "octo: bad capture 1 length "),
-    ("SB IB EB PB", 4, 28, 0, "octo: bad capture 8 length "),
-    (
-        "SB IB EB PB",
-        28,
-        48,
-        28,
-        "keyed 0\nskipped short 0 notip 0 badip 0 tags 0\ncut ",
-    ),
-    (
-        "SB IB EB PB",
-        48,
-        136,
-        48,
-        "keyed 0\nskipped short 0 notip 0 badip 0 tags 0\ncut ",
-    ),
-    (
-        "SB IB EB PB",
-        136,
-        208,
-        136,
-        "keyed 1\nskipped short 0 notip 0 badip 0 tags 0\ncut ",
-    ),
-    (
-        "SB IB EB PB",
-        208,
-        209,
-        208,
-        "keyed 2\nskipped short 0 notip 0 badip 0 tags 0\ncut ",
-    ),
+    ("LH 2*tcp", 0, 24, 0, HEADER),
+    ("LH 2*tcp", 24, 94, 24, NONE),
+    ("LH 2*tcp", 94, 164, 94, ONE),
+    ("LH 2*tcp", 164, 165, 164, BOTH),
+    ("SB IB EB PB", 0, 4, 0, HEADER),
+    ("SB IB EB PB", 4, 28, 0, SECTION),
+    ("SB IB EB PB", 28, 48, 28, NONE),
+    ("SB IB EB PB", 48, 136, 48, NONE),
+    ("SB IB EB PB", 136, 208, 136, ONE),
+    ("SB IB EB PB", 208, 209, 208, BOTH),
 ];
 
 #[test]
@@ -115,11 +86,19 @@ fn a_front_of_a_capture_is_refused_or_cut(rt: HostRuntime) -> Result<(), Fail> {
         for len in first..behind {
             let front = &whole.as_slice()[..whole.len().min(len as usize)];
             let end = run_on(&rt, alloc, WORDS, front, SMOOTH, &OpenGate)?;
-            let line = format!(in alloc; "{text}{}\n", len.saturating_sub(from))?;
-            let told = str::from_utf8(end.err.held())?.contains(line.as_str());
-            let reported = str::from_utf8(end.out.held())?.contains(line.as_str());
-            assert!(rt; told != reported, "{bytes} {len}");
-            assert!(rt; told == (from == 0), "{bytes} {len}");
+            let part = format!(in alloc; "{text}{}", len.saturating_sub(from))?;
+            let lines = whole_text(alloc, part.as_str())?;
+            let told = end_of(alloc, &end)?.as_str() == part.as_str();
+            let reported = str::from_utf8(end.out.held())?.contains(lines.as_str());
+            let fault = from == 0;
+            assert!(rt;
+                told == fault && end.out.held().is_empty() == fault,
+                "{bytes} {len}"
+            );
+            assert!(rt;
+                reported != fault && (end.status == Status::Done) != fault,
+                "{bytes} {len}"
+            );
         }
     }
     Ok(())

@@ -1,6 +1,7 @@
 // Runs in threads whose parts wait for one another.
 
 use crate::runs::{Ended, SMOOTH, run_gated};
+use crate::texts::whole_text;
 use flow_base::Status;
 use octo_run::Gate;
 use std::alloc::Global;
@@ -174,24 +175,14 @@ fn a_reader_sees_messages_while_a_worker_is_held(rt: HostRuntime) -> Result<(), 
     Ok(())
 }
 
-const NARROW: &str = "octosketch report 1
-sketch count-min rows 1 columns 1 amount packets
-records 6
-keyed 6
-skipped short 0 notip 0 badip 0 tags 0
-cut 0
-total 6
+const NARROW: &str = "octosketch report 1, sketch count-min rows 1 columns 1 amount packets
+records 6, keyed 6, notip 0, cut 0, total 6
 row 0 used 1
-heavy 1
-flow 10.0.0.1:1234>10.0.0.2:443/6 6
-end
+heavy 1, flow 10.0.0.1:1234>10.0.0.2:443/6 6, end
 octosketch journal 1
 options sketch count-min rows 1 columns 1 amount packets share turn workers 1 threshold 1 lane 1 batch 32 round 64 full leave mode threads readers 0 asks 0 heavy 64 least 5
-worker 0 pushes 3 refused 3
-refused 0 2-4
-live 10.0.0.1:1234>10.0.0.2:443/6
-missed 0
-end
+worker 0 pushes 3 refused 3, refused 0 2-4
+live 10.0.0.1:1234>10.0.0.2:443/6, missed 0, end
 ";
 
 #[test]
@@ -202,6 +193,6 @@ fn a_full_lane_leaves_updates_for_a_later_push(rt: HostRuntime) -> Result<(), Fa
     let end = gated(&rt, rt.alloc(), line, "LH 6*tcp", &gate)?;
     assert!(rt; gate.misses.load(Ordering::SeqCst) == 0);
     assert!(rt; end.status == Status::Done);
-    assert!(rt; end.out.held() == NARROW.as_bytes());
+    assert!(rt; end.out.held() == whole_text(rt.alloc(), NARROW)?.as_str().as_bytes());
     Ok(())
 }

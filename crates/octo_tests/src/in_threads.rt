@@ -8,48 +8,30 @@ use std::sync::Wait;
 use std::test::Fail;
 use std::thread::Threads;
 
-const UNREFUSED: &str = "== a lane that is never full refuses nothing
+pub const UNREFUSED: &str = "== a lane that is never full refuses nothing
 run --sketch count-sketch --rows 1 --columns 1 --workers 1 --threshold 1 --least 5 --mode threads --journal
 LH 6*tcp
 0
-octosketch report 1
-sketch count-sketch rows 1 columns 1 amount packets
-records 6
-keyed 6
-skipped short 0 notip 0 badip 0 tags 0
-cut 0
-total 6
+octosketch report 1, sketch count-sketch rows 1 columns 1 amount packets
+records 6, keyed 6, notip 0, cut 0, total 6
 row 0 used 1
-heavy 1
-flow 10.0.0.1:1234>10.0.0.2:443/6 6
-end
+heavy 1, flow 10.0.0.1:1234>10.0.0.2:443/6 6, end
 octosketch journal 1
 options sketch count-sketch rows 1 columns 1 amount packets share turn workers 1 threshold 1 lane 64 batch 32 round 64 full leave mode threads readers 0 asks 0 heavy 64 least 5
 worker 0 pushes 6 refused 0
-live 10.0.0.1:1234>10.0.0.2:443/6
-missed 0
-end
-== a push that waits is never refused
+live 10.0.0.1:1234>10.0.0.2:443/6, missed 0, end
+== a push that waits is never refused in threads
 run --full wait --rows 1 --columns 1 --workers 1 --threshold 1 --lane 1 --least 5 --mode threads --journal
 LH 6*tcp
 0
-octosketch report 1
-sketch count-min rows 1 columns 1 amount packets
-records 6
-keyed 6
-skipped short 0 notip 0 badip 0 tags 0
-cut 0
-total 6
+octosketch report 1, sketch count-min rows 1 columns 1 amount packets
+records 6, keyed 6, notip 0, cut 0, total 6
 row 0 used 1
-heavy 1
-flow 10.0.0.1:1234>10.0.0.2:443/6 6
-end
+heavy 1, flow 10.0.0.1:1234>10.0.0.2:443/6 6, end
 octosketch journal 1
 options sketch count-min rows 1 columns 1 amount packets share turn workers 1 threshold 1 lane 1 batch 32 round 64 full wait mode threads readers 0 asks 0 heavy 64 least 5
 worker 0 pushes 6 refused 0
-live 10.0.0.1:1234>10.0.0.2:443/6
-missed 0
-end
+live 10.0.0.1:1234>10.0.0.2:443/6, missed 0, end
 ";
 
 #[test]

@@ -28,9 +28,9 @@ mod pcapng;
 #[cfg(test)]
 mod raised;
 #[cfg(test)]
-mod refusals;
-#[cfg(test)]
 mod runs;
+#[cfg(test)]
+mod texts;
 #[cfg(test)]
 mod worked_epochs;
 #[cfg(test)]

@@ -1,7 +1,8 @@
 // Journals of runs in rounds of which one number is raised by one: none of them is lawful.
 
-use crate::audits::{HEAD, LAWFUL, audit};
+use crate::audits::{LAWFUL, audit};
 use crate::runs::{SMOOTH, case_of, end_of};
+use crate::texts::{case_named, journal_named};
 use crate::worked_journals::JOURNALS;
 use flow_base::Status;
 use std::alloc::Global;
@@ -138,14 +139,6 @@ fn raise_each<R: Threads + Wait + Sync + Abort>(
     Ok(count)
 }
 
-// The journal of the worked run.
-fn journal_of(alloc: Global, text: &str) -> Result<Option<String>, Fail> {
-    match text.split_once(HEAD) {
-        Some((_, behind)) => Ok(Some(format!(in alloc; "{HEAD}{behind}")?)),
-        None => Ok(None),
-    }
-}
-
 // The same for the journal of the worked run with this name.
 fn raise_each_of<R: Threads + Wait + Sync + Abort>(
     rt: &R,
@@ -154,15 +147,9 @@ fn raise_each_of<R: Threads + Wait + Sync + Abort>(
     first: u32,
     end: u32,
 ) -> Result<u32, Fail> {
-    for text in JOURNALS.split("== ") {
-        if let Some(case) = case_of(text)
-            && case.name == name
-            && let Some(journal) = journal_of(alloc, case.text)?
-        {
-            return raise_each(rt, alloc, journal.as_str(), case.bytes, first, end);
-        }
-    }
-    Err(Fail::from("no such run"))
+    let bytes = case_named(name)?.bytes;
+    let journal = journal_named(alloc, name)?;
+    raise_each(rt, alloc, journal.as_str(), bytes, first, end)
 }
 
 #[test]
@@ -170,9 +157,8 @@ fn the_worked_journals_are_lawful(rt: HostRuntime) -> Result<(), Fail> {
     let alloc = rt.alloc();
     let mut count = 0u32;
     for text in JOURNALS.split("== ") {
-        if let Some(case) = case_of(text)
-            && let Some(journal) = journal_of(alloc, case.text)?
-        {
+        if let Some(case) = case_of(text) {
+            let journal = journal_named(alloc, case.name)?;
             let end = audit(&rt, alloc, journal.as_str(), case.bytes, SMOOTH)?;
             assert!(rt; end.status == Status::Done, "{}", case.name);
             assert!(rt; end.out.held() == LAWFUL, "{}", case.name);

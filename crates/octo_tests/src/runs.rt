@@ -1,4 +1,5 @@
 use crate::captures::capture;
+use crate::texts::whole_text;
 use flow_base::{MemSink, MemSource, Status};
 use octo_run::{Gate, OpenGate, octo};
 use std::alloc::{AllocError, Global};
@@ -100,7 +101,7 @@ fn words_of(alloc: Global, line: &str) -> Result<Vec<String>, AllocError> {
 }
 
 /// A worked run: its words, its capture, its exit status with the line on the error output, and
-/// the text on the output.
+/// the text on the output in shorthand.
 #[derive(Clone, Copy)]
 pub struct Case<'a> {
     pub name: &'a str,
@@ -141,13 +142,29 @@ pub fn run_cases<R: Threads + Wait + Sync + Abort>(
     alloc: Global,
     table: &str,
 ) -> Result<u32, Fail> {
+    run_cases_with(rt, alloc, table, "")
+}
+
+/// The same with more words.
+pub fn run_cases_with<R: Threads + Wait + Sync + Abort>(
+    rt: &R,
+    alloc: Global,
+    table: &str,
+    more: &str,
+) -> Result<u32, Fail> {
     let mut count = 0u32;
     for text in table.split("== ") {
         if let Some(case) = case_of(text) {
-            let end = run(rt, alloc, case.words, case.bytes, SMOOTH)?;
+            let words = format!(in alloc; "{} {more}", case.words)?;
+            let whole = whole_text(alloc, case.text)?;
+            let end = run(rt, alloc, words.as_str(), case.bytes, SMOOTH)?;
             let ending = end_of(alloc, &end)?;
-            assert!(rt; ending.as_str() == case.status, "{}", case.name);
-            assert!(rt; end.out.held() == case.text.as_bytes(), "{}", case.name);
+            assert!(rt; ending.as_str() == case.status, "{} {more}", case.name);
+            assert!(rt;
+                end.out.held() == whole.as_str().as_bytes(),
+                "{} {more}",
+                case.name
+            );
             count = count.saturating_add(1);
         }
     }

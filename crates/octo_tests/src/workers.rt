@@ -1,6 +1,7 @@
 // The report doesn't depend on workers, push rule and lanes, and the journal is the same at each run.
 
 use crate::runs::{SMOOTH, run};
+use crate::texts::whole_text;
 use flow_base::Status;
 use std::alloc::Global;
 use std::sync::Wait;
@@ -64,16 +65,13 @@ fn many_packets_have_one_report_and_one_journal(rt: HostRuntime) -> Result<(), F
     let alloc = rt.alloc();
     let line = "load --records 65536 --start 7 --workers 4 --readers 2 --asks 100";
     let plain = run(&rt, alloc, line, "", SMOOTH)?;
-    let counts = "octosketch report 1
-sketch count-min rows 4 columns 2048 amount packets
-records 65536
-keyed 65536
-skipped short 0 notip 0 badip 0 tags 0
-cut 0
-total 65536
-";
+    let counts = whole_text(
+        alloc,
+        "octosketch report 1, sketch count-min rows 4 columns 2048 amount packets
+records 65536, keyed 65536, notip 0, cut 0, total 65536",
+    )?;
     assert!(rt; plain.status == Status::Done);
-    assert!(rt; plain.out.held().starts_with(counts.as_bytes()));
+    assert!(rt; plain.out.held().starts_with(counts.as_str().as_bytes()));
     let words = "load --records 65536 --start 7 --workers 4 --readers 2 --asks 100 --journal";
     let told = run(&rt, alloc, words, "", SMOOTH)?;
     let again = run(&rt, alloc, words, "", SMOOTH)?;

@@ -1,13 +1,7 @@
-//! Worked words, texts and reports.
+//! Worked words, and reports built from tables.
 #![tactic(auto)]
 
 #[cfg(test)]
-mod of_epochs;
-#[cfg(test)]
-mod of_prefix;
-#[cfg(test)]
 mod of_reports;
-#[cfg(test)]
-mod of_texts;
 #[cfg(test)]
 mod of_words;
