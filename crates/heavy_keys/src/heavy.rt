@@ -90,7 +90,9 @@ impl Heavy {
         behind > 0 && self.is_held(key, behind - 1)
     }
 
-    // Whether the key is there. It may stand at the place.
+    // Whether the key is there. It may stand at the place. It stands apart, so that a key whose slot is
+    // empty takes little.
+    #[inline(never)]
     fn is_held(&self, key: &FlowKey, place: u32) -> bool
         ensures { result ≡ is_among self.now.keys key.now }
     {

@@ -24,6 +24,8 @@ pub struct HeldCells<K: Kind> {
     left: u32,
     /// Where entries of the side table were seen.
     places: Places,
+    /// Where the entry may stand of the cell that was looked up last.
+    near: usize,
 }
 
 impl<K: Kind> Model for HeldCells<K> {
@@ -62,6 +64,7 @@ impl<K: Kind> HeldCells<K> {
                 due: None,
                 left: changes,
                 places,
+                near: 0,
             }),
             Err(_) => Err(NoMemory),
         }
@@ -98,7 +101,13 @@ impl<K: Kind> HeldCells<K> {
         ensures stands { (told : ℤ) × (whole : ℤ) × K.stands result told whole }
         ensures same { self.new ≡ self.old }
     {
-        kept_near::<K>(&self.bytes, &self.side, cell, &mut self.places)
+        kept_near::<K>(
+            &self.bytes,
+            &self.side,
+            cell,
+            &mut self.places,
+            &mut self.near,
+        )
     }
 
     /// The open value.
@@ -141,7 +150,7 @@ impl<K: Kind> HeldCells<K> {
         ensures idle { self.new.due ≡ None }
         ensures left { self.new.left + 1 ≡ self.old.left }
     {
-        hold::<K>(&mut self.bytes, &mut self.side, &self.places, cell, held);
+        hold::<K>(&mut self.bytes, &mut self.side, self.near, cell, held);
         self.left -= 1;
     }
 
@@ -156,7 +165,7 @@ impl<K: Kind> HeldCells<K> {
     {
         match self.due {
             Some((cell, _)) => {
-                hold::<K>(&mut self.bytes, &mut self.side, &self.places, cell, held);
+                hold::<K>(&mut self.bytes, &mut self.side, self.near, cell, held);
                 self.due = None;
                 self.left -= 1;
             }
@@ -174,7 +183,7 @@ impl<K: Kind> HeldCells<K> {
     {
         match self.due {
             Some((cell, held)) => {
-                keep::<K>(&self.bytes, &mut self.side, &self.places, cell, held);
+                keep::<K>(&mut self.side, self.near, cell, held);
                 self.due = None;
                 self.left -= 1;
             }
@@ -239,13 +248,14 @@ fn kept<K: Kind>(bytes: &Listed<i8>, side: &IndexMap<u32, K::Held>, cell: u32) -
     }
 }
 
-// The same. Where the side table was asked, the place of its entry is noted.
+// The same. Where the side table was asked, it tells where the entry may stand.
 #[inline(always)]
 fn kept_near<K: Kind>(
     bytes: &Listed<i8>,
     side: &IndexMap<u32, K::Held>,
     cell: u32,
     places: &mut Places,
+    near: &mut usize,
 ) -> K::Held
     requires cell { cell < length bytes.now.items }
     requires tells { (held : K.Held)
@@ -261,19 +271,19 @@ fn kept_near<K: Kind>(
     if byte != MARK {
         return K::from_small(byte);
     }
-    match beside_near(side, cell, places) {
+    match beside_near(side, cell, places, near) {
         Some(held) => held,
         None => K::fresh(),
     }
 }
 
 // Holds this value of the cell: its byte, and the value beside it where there is no small form. The
-// places tell where the cell's entry may stand.
+// place is where the cell's entry may stand.
 #[inline(always)]
 fn hold<K: Kind>(
     bytes: &mut Listed<i8>,
     side: &mut IndexMap<u32, K::Held>,
-    places: &Places,
+    place: usize,
     cell: u32,
     held: K::Held,
 )
@@ -288,28 +298,21 @@ fn hold<K: Kind>(
         Some(byte) => bytes.set(cell, byte),
         None => {
             bytes.set(cell, MARK);
-            put(side, places.of(cell), cell, held);
+            put(side, place, cell, held);
         }
     }
 }
 
 // The same, where the byte is told already.
 #[inline(always)]
-fn keep<K: Kind>(
-    bytes: &Listed<i8>,
-    side: &mut IndexMap<u32, K::Held>,
-    places: &Places,
-    cell: u32,
-    held: K::Held,
-)
-    requires cell { cell < length bytes.now.items }
-    requires told { get_or bytes.now.items cell mark ≡ byte_of (K.small_of held) }
+fn keep<K: Kind>(side: &mut IndexMap<u32, K::Held>, place: usize, cell: u32, held: K::Held)
+    requires stands { (told : ℤ) × (whole : ℤ) × K.stands held told whole }
     requires room { get nat_eq side.old cell ≡ None → 0 < spare side.old }
     requires unique { IsUnique nat_eq side.old }
     ensures { IsHeldBeside (K.small_of held) side.old.entries (spare side.old) cell held side.new.entries (spare side.new) }
 {
-    if *bytes.get(cell) == MARK {
-        put(side, places.of(cell), cell, held);
+    if K::small(held).is_none() {
+        put(side, place, cell, held);
     }
 }
 

@@ -12,25 +12,38 @@ pub fn beside<H: Copy>(side: &IndexMap<u32, H>, cell: u32) -> Option<H>
 }
 
 /// The same. Where the cell's entry stands at its place, nothing is looked up; otherwise the place is
-/// noted.
+/// noted. It tells where the entry may stand.
 #[inline(always)]
-pub fn beside_near<H: Copy>(side: &IndexMap<u32, H>, cell: u32, places: &mut Places) -> Option<H>
+pub fn beside_near<H: Copy>(
+    side: &IndexMap<u32, H>,
+    cell: u32,
+    places: &mut Places,
+    near: &mut usize,
+) -> Option<H>
     ensures { result ≡ get nat_eq side.now cell }
 {
-    match held_at(side, places.of(cell), cell) {
+    let place = places.of(cell);
+    *near = place;
+    match held_at(side, place, cell) {
         Some(held) => Some(held),
-        None => beside_by_key(side, cell, places),
+        None => beside_by_key(side, cell, places, near),
     }
 }
 
 // The same, of a cell whose entry has to be looked up.
 #[inline(never)]
-fn beside_by_key<H: Copy>(side: &IndexMap<u32, H>, cell: u32, places: &mut Places) -> Option<H>
+fn beside_by_key<H: Copy>(
+    side: &IndexMap<u32, H>,
+    cell: u32,
+    places: &mut Places,
+    near: &mut usize,
+) -> Option<H>
     ensures { result ≡ get nat_eq side.now cell }
 {
     match side.get_full(&cell) {
         Some((place, _, held)) => {
             places.note(cell, place);
+            *near = place;
             Some(*held)
         }
         None => None,

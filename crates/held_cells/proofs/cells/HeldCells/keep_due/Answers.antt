@@ -14,6 +14,13 @@ keep-requires-clause-room g c κs within =
     let forms = forms_hold g.K.Kind.stands g.K.Kind.rules kind.laws kind.stands_for_values f kind.small_is kind.small_back in
     room_for g.K.Kind.stands f forms p c.in-Some.cell c.self.invariant opened.0 opened.1 (shown_apart f p c.in-Some.cell c.in-Some.held c.in-Some.is) c.in-Some.held stood.0 stood.1 stood.2
 
+pub keep-requires-clause-stands : goal.keep-requires-clause-stands
+keep-requires-clause-stands g c κs within =
+    let f : Forms g.row.K-Held.Denot = record { small = g.K.Kind.small_of; from_small = g.K.Kind.held_of_small; fresh = g.K.Kind.fresh_held } in
+    let p : Parts g.row.K-Held.Denot = record { bytes = c.self.inside.bytes.items; side = c.self.inside.side.entries; spare = spare c.self.inside.side; due = c.self.inside.due; left = c.self.inside.left } in
+    let stood = due_stands g.K.Kind.stands f p c.self.invariant (c.in-Some.cell, c.in-Some.held) c.in-Some.is in
+    (stood.0, stood.1, stood.2)
+
 pub invariant_of-self : goal.invariant_of-self
 invariant_of-self g c =
     let f : Forms g.row.K-Held.Denot = record { small = g.K.Kind.small_of; from_small = g.K.Kind.held_of_small; fresh = g.K.Kind.fresh_held } in
