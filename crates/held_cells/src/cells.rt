@@ -20,12 +20,13 @@ const MARK: i8 = -128;
 pub struct HeldCells<K: Kind> {
     bytes: Listed<i8>,
     side: IndexMap<u32, K::Held>,
-    due: Option<(u32, K::Held)>,
+    /// The cell whose value is open.
+    due: Option<u32>,
+    /// That value. It stays when the cell is settled, which takes one store.
+    open: K::Held,
     left: u32,
     /// Where entries of the side table were seen.
     places: Places,
-    /// Where the entry may stand of the cell that was looked up last.
-    near: usize,
 }
 
 impl<K: Kind> Model for HeldCells<K> {
@@ -39,13 +40,13 @@ impl<K: Kind> Model for HeldCells<K> {
 
     ghost view = { λ c. record {
       held = held_of (record { small = K.small_of; from_small = K.held_of_small; fresh = K.fresh_held })
-          (record { bytes = c.bytes.items; side = c.side.entries; spare = spare c.side; due = c.due; left = c.left });
-      due = option_map (λ due. due.0) c.due;
+          (record { bytes = c.bytes.items; side = c.side.entries; spare = spare c.side; due = option_map (λ cell. (cell, c.open)) c.due; left = c.left });
+      due = c.due;
       left = c.left;
     } };
 
     ghost invariant = { λ c. AreHeldParts K.stands (record { small = K.small_of; from_small = K.held_of_small; fresh = K.fresh_held })
-        (record { bytes = c.bytes.items; side = c.side.entries; spare = spare c.side; due = c.due; left = c.left }) };
+        (record { bytes = c.bytes.items; side = c.side.entries; spare = spare c.side; due = option_map (λ cell. (cell, c.open)) c.due; left = c.left }) };
 }
 
 impl<K: Kind> HeldCells<K> {
@@ -62,9 +63,9 @@ impl<K: Kind> HeldCells<K> {
                 bytes,
                 side,
                 due: None,
+                open: K::fresh(),
                 left: changes,
                 places,
-                near: 0,
             }),
             Err(_) => Err(NoMemory),
         }
@@ -77,7 +78,7 @@ impl<K: Kind> HeldCells<K> {
         ensures stands { (told : ℤ) × (whole : ℤ) × K.stands result told whole }
     {
         match self.due {
-            Some((due, held)) if due == cell => held,
+            Some(due) if due == cell => self.open,
             _ => kept::<K>(&self.bytes, &self.side, cell),
         }
     }
@@ -101,13 +102,7 @@ impl<K: Kind> HeldCells<K> {
         ensures stands { (told : ℤ) × (whole : ℤ) × K.stands result told whole }
         ensures same { self.new ≡ self.old }
     {
-        kept_near::<K>(
-            &self.bytes,
-            &self.side,
-            cell,
-            &mut self.places,
-            &mut self.near,
-        )
+        kept_near::<K>(&self.bytes, &self.side, cell, &mut self.places)
     }
 
     /// The open value.
@@ -119,7 +114,7 @@ impl<K: Kind> HeldCells<K> {
         ensures stands { (told : ℤ) × (whole : ℤ) × K.stands result told whole }
     {
         match self.due {
-            Some((_, held)) => held,
+            Some(_) => self.open,
             None => unreachable!(),
         }
     }
@@ -136,7 +131,8 @@ impl<K: Kind> HeldCells<K> {
         ensures left { self.new.left ≡ self.old.left }
     {
         self.bytes.set(cell, byte_for::<K>(held));
-        self.due = Some((cell, held));
+        self.due = Some(cell);
+        self.open = held;
     }
 
     /// Holds a value of the cell. This is one change.
@@ -150,7 +146,7 @@ impl<K: Kind> HeldCells<K> {
         ensures idle { self.new.due ≡ None }
         ensures left { self.new.left + 1 ≡ self.old.left }
     {
-        hold::<K>(&mut self.bytes, &mut self.side, self.near, cell, held);
+        hold::<K>(&mut self.bytes, &mut self.side, &self.places, cell, held);
         self.left -= 1;
     }
 
@@ -164,8 +160,8 @@ impl<K: Kind> HeldCells<K> {
         ensures left { self.new.left + 1 ≡ self.old.left }
     {
         match self.due {
-            Some((cell, _)) => {
-                hold::<K>(&mut self.bytes, &mut self.side, self.near, cell, held);
+            Some(cell) => {
+                hold::<K>(&mut self.bytes, &mut self.side, &self.places, cell, held);
                 self.due = None;
                 self.left -= 1;
             }
@@ -182,8 +178,8 @@ impl<K: Kind> HeldCells<K> {
         ensures left { self.new.left + 1 ≡ self.old.left }
     {
         match self.due {
-            Some((cell, held)) => {
-                keep::<K>(&mut self.side, self.near, cell, held);
+            Some(cell) => {
+                keep::<K>(&mut self.side, &self.places, cell, self.open);
                 self.due = None;
                 self.left -= 1;
             }
@@ -248,14 +244,13 @@ fn kept<K: Kind>(bytes: &Listed<i8>, side: &IndexMap<u32, K::Held>, cell: u32) -
     }
 }
 
-// The same. Where the side table was asked, it tells where the entry may stand.
+// The same. Where the side table was asked, the place of its entry is noted.
 #[inline(always)]
 fn kept_near<K: Kind>(
     bytes: &Listed<i8>,
     side: &IndexMap<u32, K::Held>,
     cell: u32,
     places: &mut Places,
-    near: &mut usize,
 ) -> K::Held
     requires cell { cell < length bytes.now.items }
     requires tells { (held : K.Held)
@@ -271,19 +266,19 @@ fn kept_near<K: Kind>(
     if byte != MARK {
         return K::from_small(byte);
     }
-    match beside_near(side, cell, places, near) {
+    match beside_near(side, cell, places) {
         Some(held) => held,
         None => K::fresh(),
     }
 }
 
 // Holds this value of the cell: its byte, and the value beside it where there is no small form. The
-// place is where the cell's entry may stand.
+// places tell where the cell's entry may stand.
 #[inline(always)]
 fn hold<K: Kind>(
     bytes: &mut Listed<i8>,
     side: &mut IndexMap<u32, K::Held>,
-    place: usize,
+    places: &Places,
     cell: u32,
     held: K::Held,
 )
@@ -298,21 +293,21 @@ fn hold<K: Kind>(
         Some(byte) => bytes.set(cell, byte),
         None => {
             bytes.set(cell, MARK);
-            put(side, place, cell, held);
+            put(side, places.of(cell), cell, held);
         }
     }
 }
 
 // The same, where the byte is told already.
 #[inline(always)]
-fn keep<K: Kind>(side: &mut IndexMap<u32, K::Held>, place: usize, cell: u32, held: K::Held)
+fn keep<K: Kind>(side: &mut IndexMap<u32, K::Held>, places: &Places, cell: u32, held: K::Held)
     requires stands { (told : ℤ) × (whole : ℤ) × K.stands held told whole }
     requires room { get nat_eq side.old cell ≡ None → 0 < spare side.old }
     requires unique { IsUnique nat_eq side.old }
     ensures { IsHeldBeside (K.small_of held) side.old.entries (spare side.old) cell held side.new.entries (spare side.new) }
 {
     if K::small(held).is_none() {
-        put(side, place, cell, held);
+        put(side, places.of(cell), cell, held);
     }
 }
 

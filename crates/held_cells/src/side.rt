@@ -12,38 +12,25 @@ pub fn beside<H: Copy>(side: &IndexMap<u32, H>, cell: u32) -> Option<H>
 }
 
 /// The same. Where the cell's entry stands at its place, nothing is looked up; otherwise the place is
-/// noted. It tells where the entry may stand.
+/// noted.
 #[inline(always)]
-pub fn beside_near<H: Copy>(
-    side: &IndexMap<u32, H>,
-    cell: u32,
-    places: &mut Places,
-    near: &mut usize,
-) -> Option<H>
+pub fn beside_near<H: Copy>(side: &IndexMap<u32, H>, cell: u32, places: &mut Places) -> Option<H>
     ensures { result ≡ get nat_eq side.now cell }
 {
-    let place = places.of(cell);
-    *near = place;
-    match held_at(side, place, cell) {
+    match held_at(side, places.of(cell), cell) {
         Some(held) => Some(held),
-        None => beside_by_key(side, cell, places, near),
+        None => beside_by_key(side, cell, places),
     }
 }
 
 // The same, of a cell whose entry has to be looked up.
 #[inline(never)]
-fn beside_by_key<H: Copy>(
-    side: &IndexMap<u32, H>,
-    cell: u32,
-    places: &mut Places,
-    near: &mut usize,
-) -> Option<H>
+fn beside_by_key<H: Copy>(side: &IndexMap<u32, H>, cell: u32, places: &mut Places) -> Option<H>
     ensures { result ≡ get nat_eq side.now cell }
 {
     match side.get_full(&cell) {
         Some((place, _, held)) => {
             places.note(cell, place);
-            *near = place;
             Some(*held)
         }
         None => None,

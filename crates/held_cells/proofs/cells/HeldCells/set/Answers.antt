@@ -1,15 +1,15 @@
-use Rattle.std.proofs.Common.{arith, ap, sym, subst, ◌≡◌, ◌<◌, ◌-◌, ◌∙◌, ℕ, length, Option, None, slice_set}
+use Rattle.std.proofs.Common.{option_map, arith, ap, sym, subst, ◌≡◌, ◌<◌, ◌-◌, ◌∙◌, ℕ, length, Option, None, slice_set}
 use Rattle.indexmap.specs.IndexMap.{spare}
 use Rattle.held_cells.specs.Held.{AreHeldParts, Forms, HeldView, Parts, held_of}
-use Rattle.held_cells.proofs.Holding.{forms_hold, held_len, idle_of, room_for, settled_held, settled_parts, shown_idle}
+use Rattle.held_cells.proofs.Holding.{forms_hold, held_len, room_for, settled_held, settled_parts, shown_idle}
 use Rattle.held_cells.proofs.cells.HeldCells.set.Goals as goal
 
 pub hold-requires-clause-room : goal.hold-requires-clause-room
 hold-requires-clause-room g c κs within =
     let f : Forms g.row.K-Held.Denot = record { small = g.K.Kind.small_of; from_small = g.K.Kind.held_of_small; fresh = g.K.Kind.fresh_held } in
-    let p : Parts g.row.K-Held.Denot = record { bytes = c.self.inside.bytes.items; side = c.self.inside.side.entries; spare = spare c.self.inside.side; due = c.self.inside.due; left = c.self.inside.left } in
+    let p : Parts g.row.K-Held.Denot = record { bytes = c.self.inside.bytes.items; side = c.self.inside.side.entries; spare = spare c.self.inside.side; due = option_map (λ cell. (cell, c.self.inside.open)) c.self.inside.due; left = c.self.inside.left } in
     let lt : c.args.cell < length p.bytes = omega (arith, c.requires.cell, held_len f p, ap (λ (v : HeldView g.row.K-Held.Denot). length v.held) c.self.view_is) in
-    let idle : p.due ≡ None = idle_of p.due (ap (λ (v : HeldView g.row.K-Held.Denot). v.due) c.self.view_is ∙ c.requires.idle) in
+    let idle : p.due ≡ None = ap (option_map (λ cell. (cell, c.self.inside.open))) (ap (λ (v : HeldView g.row.K-Held.Denot). v.due) c.self.view_is ∙ c.requires.idle) in
     let some : 0 < p.left = omega (arith, c.requires.left, ap (λ (v : HeldView g.row.K-Held.Denot). v.left) c.self.view_is) in
     let kind = (g.met.K.Kind g.world.𝓛 g.world.𝓜 g.world.𝓡 ((λ s x. x), (λ x. x), (λ x. x), (λ x. x))) in
     let forms = forms_hold g.K.Kind.stands g.K.Kind.rules kind.laws kind.stands_for_values f kind.small_is kind.small_back in
@@ -18,17 +18,17 @@ hold-requires-clause-room g c κs within =
 pub hold-requires-clause-cell : goal.hold-requires-clause-cell
 hold-requires-clause-cell g c κs within =
     let f : Forms g.row.K-Held.Denot = record { small = g.K.Kind.small_of; from_small = g.K.Kind.held_of_small; fresh = g.K.Kind.fresh_held } in
-    let p : Parts g.row.K-Held.Denot = record { bytes = c.self.inside.bytes.items; side = c.self.inside.side.entries; spare = spare c.self.inside.side; due = c.self.inside.due; left = c.self.inside.left } in
+    let p : Parts g.row.K-Held.Denot = record { bytes = c.self.inside.bytes.items; side = c.self.inside.side.entries; spare = spare c.self.inside.side; due = option_map (λ cell. (cell, c.self.inside.open)) c.self.inside.due; left = c.self.inside.left } in
     let lt : c.args.cell < length p.bytes = omega (arith, c.requires.cell, held_len f p, ap (λ (v : HeldView g.row.K-Held.Denot). length v.held) c.self.view_is) in
-    let idle : p.due ≡ None = idle_of p.due (ap (λ (v : HeldView g.row.K-Held.Denot). v.due) c.self.view_is ∙ c.requires.idle) in
+    let idle : p.due ≡ None = ap (option_map (λ cell. (cell, c.self.inside.open))) (ap (λ (v : HeldView g.row.K-Held.Denot). v.due) c.self.view_is ∙ c.requires.idle) in
     lt
 
 pub invariant_of-self : goal.invariant_of-self
 invariant_of-self g c =
     let f : Forms g.row.K-Held.Denot = record { small = g.K.Kind.small_of; from_small = g.K.Kind.held_of_small; fresh = g.K.Kind.fresh_held } in
-    let p : Parts g.row.K-Held.Denot = record { bytes = c.self.inside.bytes.items; side = c.self.inside.side.entries; spare = spare c.self.inside.side; due = c.self.inside.due; left = c.self.inside.left } in
+    let p : Parts g.row.K-Held.Denot = record { bytes = c.self.inside.bytes.items; side = c.self.inside.side.entries; spare = spare c.self.inside.side; due = option_map (λ cell. (cell, c.self.inside.open)) c.self.inside.due; left = c.self.inside.left } in
     let lt : c.args.cell < length p.bytes = omega (arith, c.requires.cell, held_len f p, ap (λ (v : HeldView g.row.K-Held.Denot). length v.held) c.self.view_is) in
-    let idle : p.due ≡ None = idle_of p.due (ap (λ (v : HeldView g.row.K-Held.Denot). v.due) c.self.view_is ∙ c.requires.idle) in
+    let idle : p.due ≡ None = ap (option_map (λ cell. (cell, c.self.inside.open))) (ap (λ (v : HeldView g.row.K-Held.Denot). v.due) c.self.view_is ∙ c.requires.idle) in
     let some : 0 < p.left = omega (arith, c.requires.left, ap (λ (v : HeldView g.row.K-Held.Denot). v.left) c.self.view_is) in
     let kind = (g.met.K.Kind g.world.𝓛 g.world.𝓜 g.world.𝓡 ((λ s x. x), (λ x. x), (λ x. x), (λ x. x))) in
     let forms = forms_hold g.K.Kind.stands g.K.Kind.rules kind.laws kind.stands_for_values f kind.small_is kind.small_back in
@@ -39,9 +39,9 @@ invariant_of-self g c =
 pub returns-clause-held : goal.returns-clause-held
 returns-clause-held g c =
     let f : Forms g.row.K-Held.Denot = record { small = g.K.Kind.small_of; from_small = g.K.Kind.held_of_small; fresh = g.K.Kind.fresh_held } in
-    let p : Parts g.row.K-Held.Denot = record { bytes = c.self.inside.bytes.items; side = c.self.inside.side.entries; spare = spare c.self.inside.side; due = c.self.inside.due; left = c.self.inside.left } in
+    let p : Parts g.row.K-Held.Denot = record { bytes = c.self.inside.bytes.items; side = c.self.inside.side.entries; spare = spare c.self.inside.side; due = option_map (λ cell. (cell, c.self.inside.open)) c.self.inside.due; left = c.self.inside.left } in
     let lt : c.args.cell < length p.bytes = omega (arith, c.requires.cell, held_len f p, ap (λ (v : HeldView g.row.K-Held.Denot). length v.held) c.self.view_is) in
-    let idle : p.due ≡ None = idle_of p.due (ap (λ (v : HeldView g.row.K-Held.Denot). v.due) c.self.view_is ∙ c.requires.idle) in
+    let idle : p.due ≡ None = ap (option_map (λ cell. (cell, c.self.inside.open))) (ap (λ (v : HeldView g.row.K-Held.Denot). v.due) c.self.view_is ∙ c.requires.idle) in
     let some : 0 < p.left = omega (arith, c.requires.left, ap (λ (v : HeldView g.row.K-Held.Denot). v.left) c.self.view_is) in
     let kind = (g.met.K.Kind g.world.𝓛 g.world.𝓜 g.world.𝓡 ((λ s x. x), (λ x. x), (λ x. x), (λ x. x))) in
     let forms = forms_hold g.K.Kind.stands g.K.Kind.rules kind.laws kind.stands_for_values f kind.small_is kind.small_back in

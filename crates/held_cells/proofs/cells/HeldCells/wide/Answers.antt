@@ -1,4 +1,4 @@
-use Rattle.std.proofs.Common.{arith, sym, ap, ◌≡◌, ◌<◌, ◌+◌, ◌∙◌, ℕ, true, false, length, take, count_by, is_none, get_or}
+use Rattle.std.proofs.Common.{option_map, arith, sym, ap, ◌≡◌, ◌<◌, ◌+◌, ◌∙◌, ℕ, true, false, length, take, count_by, is_none, get_or}
 use Rattle.std.specs.Ordering.{int_eq}
 use Rattle.std.proofs.lemmas.List.{take_all}
 use Rattle.std.proofs.lemmas.Option.{get_or_from_slice_get}
@@ -11,7 +11,7 @@ use Rattle.held_cells.proofs.cells.HeldCells.wide.Goals.{then-get, else-get}
 pub loop-cell-preserved : goal.loop-cell-preserved
 loop-cell-preserved g c =
     let f : Forms g.row.K-Held.Denot = record { small = g.K.Kind.small_of; from_small = g.K.Kind.held_of_small; fresh = g.K.Kind.fresh_held } in
-    let p : Parts g.row.K-Held.Denot = record { bytes = c.self.inside.bytes.items; side = c.self.inside.side.entries; spare = spare c.self.inside.side; due = c.self.inside.due; left = c.self.inside.left } in
+    let p : Parts g.row.K-Held.Denot = record { bytes = c.self.inside.bytes.items; side = c.self.inside.side.entries; spare = spare c.self.inside.side; due = option_map (λ cell. (cell, c.self.inside.open)) c.self.inside.due; left = c.self.inside.left } in
     let kind = (g.met.K.Kind g.world.𝓛 g.world.𝓜 g.world.𝓡 ((λ s x. x), (λ x. x), (λ x. x), (λ x. x))) in
     let forms = forms_hold g.K.Kind.stands g.K.Kind.rules kind.laws kind.stands_for_values f kind.small_is kind.small_back in
     let cell = c.loop-cell.cell in
@@ -32,7 +32,7 @@ loop-cell-preserved g c =
 pub returns : goal.returns
 returns g c =
     let f : Forms g.row.K-Held.Denot = record { small = g.K.Kind.small_of; from_small = g.K.Kind.held_of_small; fresh = g.K.Kind.fresh_held } in
-    let p : Parts g.row.K-Held.Denot = record { bytes = c.self.inside.bytes.items; side = c.self.inside.side.entries; spare = spare c.self.inside.side; due = c.self.inside.due; left = c.self.inside.left } in
+    let p : Parts g.row.K-Held.Denot = record { bytes = c.self.inside.bytes.items; side = c.self.inside.side.entries; spare = spare c.self.inside.side; due = option_map (λ cell. (cell, c.self.inside.open)) c.self.inside.due; left = c.self.inside.left } in
     let long : length c.args.self.now.held ≡ length p.bytes = sym (ap (λ (v : HeldView g.row.K-Held.Denot). length v.held) c.self.view_is) ∙ held_len f p in
     c.loop-cell.invariant.0
     ∙ ap (count_by (λ h. is_none (g.K.Kind.small_of h))) (take_all c.loop-cell.cell c.args.self.now.held (omega (arith, long, c.loop-cell-test.false, c.loop-cell.auto.cell-end, c.len-cell-end.ensures)))
