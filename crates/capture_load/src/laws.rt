@@ -23,5 +23,6 @@ pub fn refusal_stays()
 pub fn generated_whole()
     ensures whole { (records start : ℕ) → records ≤ most_records → (frames : List Framed) × (length frames ≡ records)
         × CaptureOf most_records (generated records start) (Whole frames 0) }
-    ensures fine { (records start : ℕ) → records ≤ most_records → (refusal : Refusal) → HoldsRefusal (generated records start) [] refusal → ⊥ }
+    ensures fine { (records start : ℕ) → records ≤ most_records → (refusal : Refusal)
+        → HoldsRefusal (generated records start) [] refusal → ⊥ }
 {}

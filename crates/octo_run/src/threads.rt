@@ -127,7 +127,8 @@ pub fn octo_threads<R: Threads + Wait + Sync, S: Source, T: Sink, E: Sink, G: Ga
     ensures untouched { result ≢ Status.Done → result ≢ Status.WriteFault → out.new ≡ out.old }
 {
     let count = |capture: &Capture|
-        requires { IsSync R.row × IsLawful options.now × (options.now.mode ≡ Mode.Threads) × (length capture.now.packets.items ≤ most_records) }
+        requires { IsSync R.row × IsLawful options.now × (options.now.mode ≡ Mode.Threads)
+            × (length capture.now.packets.items ≤ most_records) }
         ensures results { IfOk result (HasResults capture.now options.entry.now) }
         ensures complete { IfOk result (IsComplete options.entry.now) }
     { results_in_threads(rt, alloc, capture, options, gate) };

@@ -57,9 +57,10 @@ impl Lane {
         }
     }
 
-    // Whether the lane is full. Where it is, one try more is counted that the lane refused.
+    /// Whether the lane is full. Where it is, one try more is counted that the lane refused. Who asks
+    /// first makes no message that comes back.
     #[inline(always)]
-    fn refuses(&self, pass: &mut InPass) -> bool
+    pub fn refuses(&self, pass: &mut InPass) -> bool
         requires { pass.old.id ≡ self.now.id }
         ensures lane { pass.new.id ≡ pass.old.id }
         ensures sent { pass.new.sent ≡ pass.old.sent }

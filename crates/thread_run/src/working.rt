@@ -72,7 +72,8 @@ fn run_one<K: Kind, R: Wait, G: Gate>(
         part,
         worker,
         |part: WorkerPart<K>, worker: u32|
-            requires { IsShape options.now.shape × (length packets.now ≤ most_records) × IsReady K.stands K.rules options.now packets.now lane.now part }
+            requires { IsShape options.now.shape × (length packets.now ≤ most_records)
+                × IsReady K.stands K.rules options.now packets.now lane.now part }
             ensures { HasWorked K.stands K.rules options.entry.now packets.entry.now worker lane.entry.now part result.0 }
         { (worked(rt, worker, packets, options, lane, gate, part), ()) },
     );

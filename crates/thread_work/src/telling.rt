@@ -11,6 +11,22 @@ use push_lane::{InPass, Lane};
 use push_rule::Private;
 use std::sync::Wait;
 
+// Whether an update is left, since the lane is full and pushes don't wait.
+#[inline(always)]
+fn leaves(full: Full, lane: &Lane, pass: &mut InPass) -> bool
+    requires { pass.old.id ≡ lane.now.id }
+    ensures lane { pass.new.id ≡ pass.old.id }
+    ensures sent { pass.new.sent ≡ pass.old.sent }
+    ensures left { MatchBool result
+        ((full ≡ Leave) × (pass.new.fulls ≡ one_more_or_last pass.old.fulls) × (lane.now.capacity ≤ length pass.old.sent))
+        (pass.new.fulls ≡ pass.old.fulls) }
+{
+    match full {
+        Full::Leave => lane.refuses(pass),
+        Full::Wait => false,
+    }
+}
+
 // Sends the message, or leaves it where the lane is full and pushes don't wait.
 #[inline(always)]
 fn send<R: Wait>(rt: &R, full: Full, lane: &Lane, pass: &mut InPass, message: Push) -> bool
@@ -63,6 +79,11 @@ pub fn tell<K: Kind, R: Wait>(
     match sketch.count(cell, value) {
         None => (),
         Some(amount) => {
+            // No message is made that the lane would give back.
+            if leaves(full, lane, pass) {
+                sketch.refused();
+                return;
+            }
             let number = sketch.counted() - 1;
             let message = Push {
                 worker,
