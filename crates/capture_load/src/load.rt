@@ -64,7 +64,8 @@ pub fn load_behind<S: Source>(
     ensures fine { OnOk result ((refusal : Refusal)
         → Given (left_of S.left source.old) (S.left source.new.source.now) (λ given rest. HoldsRefusal given rest refusal → ⊥)) }
     ensures unrefused { IsErrOf result LoadStop.ReadFault → (frames : List Framed) (refusal : Refusal)
-        → Given (left_of S.left source.old) (S.left source.new.source.now) (λ given rest. RefusesNext most_records given frames refusal → ⊥) }
+        → Given (left_of S.left source.old) (S.left source.new.source.now)
+        (λ given rest. RefusesNext most_records given frames refusal → ⊥) }
     ensures few { IfOk result (λ capture. length capture.packets.items ≤ most_records) }
     ensures front { (given : List ℕ) × (left_of S.left source.old ≡ behind given (S.left source.new.source.now)) }
     ensures later { S.faults source.old.source.now ≤ S.faults source.new.source.now }

@@ -40,13 +40,25 @@ impl<K: Kind> Model for HeldCells<K> {
 
     ghost view = { λ c. record {
       held = held_of (record { small = K.small_of; from_small = K.held_of_small; fresh = K.fresh_held })
-          (record { bytes = c.bytes.items; side = c.side.entries; spare = spare c.side; due = option_map (λ cell. (cell, c.open)) c.due; left = c.left });
+          (record {
+            bytes = c.bytes.items;
+            side = c.side.entries;
+            spare = spare c.side;
+            due = option_map (λ cell. (cell, c.open)) c.due;
+            left = c.left;
+          });
       due = c.due;
       left = c.left;
     } };
 
     ghost invariant = { λ c. AreHeldParts K.stands (record { small = K.small_of; from_small = K.held_of_small; fresh = K.fresh_held })
-        (record { bytes = c.bytes.items; side = c.side.entries; spare = spare c.side; due = option_map (λ cell. (cell, c.open)) c.due; left = c.left }) };
+        (record {
+          bytes = c.bytes.items;
+          side = c.side.entries;
+          spare = spare c.side;
+          due = option_map (λ cell. (cell, c.open)) c.due;
+          left = c.left;
+        }) };
 }
 
 impl<K: Kind> HeldCells<K> {

@@ -188,7 +188,8 @@ impl<K: Kind> Counter<K> {
         requires value { K.rules.is_value value ≡ true }
         requires room { length self.old.queue < self.old.room }
         ensures keeps { (t : Terms) (w : ℕ) (x : Worker) → t.rules ≡ K.rules → Keeps K.stands t w self.old x
-            → x.counted < length (updates_by t w) → update_at (updates_by t w) x.counted ≡ record { packet = packet; key = key.now; cell = cell; value = value }
+            → x.counted < length (updates_by t w)
+            → update_at (updates_by t w) x.counted ≡ record { packet = packet; key = key.now; cell = cell; value = value }
             → Keeps K.stands t w self.new (count_step t w x).0 × (result ≡ (count_step t w x).1) }
         ensures same { KeepsSettings self.old self.new }
         ensures queue { length self.new.queue ≤ length self.old.queue + 1 }
@@ -209,7 +210,8 @@ impl<K: Kind> Counter<K> {
         requires cell { cell < length self.now.sketch.held }
         requires value { K.rules.is_value value ≡ true }
         ensures { (t : Terms) (w : ℕ) (x : Worker) → t.rules ≡ K.rules → Keeps K.stands t w self.now x
-            → x.counted < length (updates_by t w) → update_at (updates_by t w) x.counted ≡ record { packet = packet; key = key.now; cell = cell; value = value }
+            → x.counted < length (updates_by t w)
+            → update_at (updates_by t w) x.counted ≡ record { packet = packet; key = key.now; cell = cell; value = value }
             → result ≡ (is_wait self.now.full && (nat_le self.now.lane (in_lane self.now)
             && nat_le t.threshold (distance_at t.rules (updates_by t w) x.sent x.counted))) }
     {
@@ -229,7 +231,8 @@ impl<K: Kind> Counter<K> {
         requires value { K.rules.is_value value ≡ true }
         requires room { length self.old.queue < self.old.room }
         ensures keeps { (t : Terms) (w : ℕ) (x : Worker) → t.rules ≡ K.rules → Keeps K.stands t w self.old x
-            → x.counted < length (updates_by t w) → update_at (updates_by t w) x.counted ≡ record { packet = packet; key = key.now; cell = cell; value = value }
+            → x.counted < length (updates_by t w)
+            → update_at (updates_by t w) x.counted ≡ record { packet = packet; key = key.now; cell = cell; value = value }
             → (is_wait self.old.full && (nat_le self.old.lane (in_lane self.old)
             && nat_le t.threshold (distance_at t.rules (updates_by t w) x.sent x.counted))) ≡ false
             → Keeps K.stands t w self.new (count_step t w x).0 × (result ≡ (count_step t w x).1) }

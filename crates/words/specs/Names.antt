@@ -37,7 +37,8 @@ shared_options = map an_option (codes "rows"
 -- the options that a command takes beside them
 abbrev pub own_options : Verb → List Name
 own_options Run = map an_option (codes "sketch" ∷ codes "mode" ∷ codes "watch" ∷ codes "readers" ∷ codes "asks" ∷ [])
-own_options Load = map an_option (codes "sketch" ∷ codes "mode" ∷ codes "watch" ∷ codes "readers" ∷ codes "asks" ∷ codes "records" ∷ codes "start" ∷ [])
+own_options Load = map an_option (codes "sketch" ∷ codes "mode" ∷ codes "watch" ∷ codes "readers" ∷ codes "asks"
+    ∷ codes "records" ∷ codes "start" ∷ [])
 own_options Prefix = map an_option (codes "watch" ∷ codes "readers" ∷ codes "asks" ∷ [])
 own_options Epochs = map an_option (codes "mode" ∷ codes "packets" ∷ codes "change" ∷ [])
 
