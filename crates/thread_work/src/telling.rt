@@ -79,12 +79,12 @@ pub fn tell<K: Kind, R: Wait>(
     match sketch.count(cell, value) {
         None => (),
         Some(amount) => {
+            let number = sketch.counted() - 1;
             // No message is made that the lane would give back.
             if leaves(full, lane, pass) {
                 sketch.refused();
                 return;
             }
-            let number = sketch.counted() - 1;
             let message = Push {
                 worker,
                 packet,
